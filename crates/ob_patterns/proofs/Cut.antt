@@ -1,6 +1,6 @@
 -- A front that is cut: its rest is what is gathered, and what is next is so.
-use Rattle.std.proofs.Common.{◌≡◌, refl, sym, ap, ◌∙◌, arith, ℕ, List, [], ◌∷◌, length, append-nil, true, false, Bool, cond}
-use Rattle.std.proofs.Common.{inl, inr, subst, zero, suc}
+use Rattle.std.proofs.Common.{◌≡◌, refl, sym, ap, ◌∙◌, arith, ℕ, List, [], ◌∷◌, length, append-nil, true, false, Bool}
+use Rattle.std.proofs.Common.{cond, inl, inr, subst, zero, suc}
 use Rattle.std.proofs.lemmas.Bool.Decides.{nat_tests}
 use Rattle.std.specs.Prelude.{IfNone, IfSome, Result, Ok, Err}
 use Rattle.std.specs.declared.io.Error.{Error}
@@ -23,7 +23,8 @@ use Rattle.ob_connection.specs.declared.connection.sending.Sent.{Sent}
 use Rattle.ob_connection.specs.declared.connection.sending.SendFault.TheVariants.{Broken as IsBroken}
 use Rattle.ob_patterns.specs.Sending.{IsGivenUp, broken, most_bytes}
 use Rattle.ob_patterns.specs.Saying.{Says}
-use Rattle.ob_patterns.specs.Urgent.{EndsCut, LeavesAtFault, LeavesCut, SaysOfBoth, SendsRest, cut_after, is_left, next_after_fault, next_by, next_of_cut, rest_after, rest_of}
+use Rattle.ob_patterns.specs.Urgent.{EndsCut, LeavesAtFault, LeavesCut, SaysOfBoth, SendsRest, cut_after, is_left}
+use Rattle.ob_patterns.specs.Urgent.{next_after_fault, next_by, next_of_cut, rest_after, rest_of}
 use Rattle.ob_patterns.specs.declared.next.Next.{Next}
 use Rattle.ob_patterns.specs.declared.next.Next.TheVariants.{Rest, WaitForRoom, ComeAgain, SendFront, Closed, Broken}
 
@@ -141,8 +142,8 @@ says_by {now} false (Some (Other value)) is cut = (
   λ commands stands. no_bytes_in_front now.unsent.settings commands (ap (next_by false) (is commands stands)),
 )
 
-module _ {old new : Connected} {sent_before sent_after : Option (List ℕ)} {calls_before calls_after : Option (List Call)}
-    {done : Sent} where
+module _ {old new : Connected} {sent_before sent_after : Option (List ℕ)}
+    {calls_before calls_after : Option (List Call)} {done : Sent} where
   -- what was sent of what is gathered was sent of the rest
   pub sends_rest : Gives old cut_after true → Sends 1 most_bytes old sent_before done new sent_after →
       (let result : Result Sent SendFault = Ok done in Asks 1 most_bytes old calls_before result calls_after) →

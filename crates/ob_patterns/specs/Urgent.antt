@@ -12,7 +12,8 @@ use Rattle.ob_connection.specs.Calls.{Call, with_more}
 use Rattle.ob_connection.specs.Connected.{Connected, Gives}
 use Rattle.ob_connection.specs.Sending.{Asks, Sends}
 use Rattle.ob_connection.specs.declared.connection.sending.SendFault.{SendFault}
-use Rattle.ob_connection.specs.declared.connection.sending.SendFault.TheVariants.{Closed as IsClosed, Broken as IsBroken}
+use Rattle.ob_connection.specs.declared.connection.sending.SendFault.TheVariants.{Closed as IsClosed}
+use Rattle.ob_connection.specs.declared.connection.sending.SendFault.TheVariants.{Broken as IsBroken}
 use Rattle.ob_connection.specs.declared.connection.sending.Sent.{Sent}
 use Rattle.ob_patterns.specs.Saying.{Says}
 use Rattle.ob_patterns.specs.Sending.{IsGivenUp, Spins, broken, most_bytes}
@@ -57,7 +58,7 @@ pub record KeepsAll (old : Connected) (sent_before : Option (List ℕ)) (calls_b
   pub unsent : sent_after ≡ sent_before
   pub unasked : calls_after ≡ calls_before
 
--- no message is cut now: none was, and nothing was done, or the rest of the one that was cut was sent
+-- no front is cut now: none was, and nothing was done, or the rest of the one that was cut was sent
 pub record EndsCut (old : Connected) (sent_before : Option (List ℕ)) (calls_before : Option (List Call))
     (new : Connected) (sent_after : Option (List ℕ)) (calls_after : Option (List Call)) : Type 0 where
   pub uncut : Gives new cut_after false
@@ -95,8 +96,8 @@ LeavesAtFault IsClosed old new = new ≡ old
 LeavesAtFault (IsBroken error) old new = IsGivenUp old broken new
 
 -- the front was cut, and nothing was sent of its rest, for this fault; it is said what is next
-pub record FailsAtCut (old : Connected) (sent_before : Option (List ℕ)) (calls_before : Option (List Call)) (next : Next)
-    (new : Connected) (sent_after : Option (List ℕ)) (calls_after : Option (List Call)) : Type 0 where
+pub record FailsAtCut (old : Connected) (sent_before : Option (List ℕ)) (calls_before : Option (List Call))
+    (next : Next) (new : Connected) (sent_after : Option (List ℕ)) (calls_after : Option (List Call)) : Type 0 where
   pub fault : SendFault
   pub cut : Gives old cut_after true
   pub asks : (let result : Result Sent SendFault = Err fault in Asks 1 most_bytes old calls_before result calls_after)
@@ -118,8 +119,8 @@ pub record WaitsForCut (urgent_old other_old : Connected) (sent_before : Option 
   pub left : LeavesCut other_old sent_before calls_before next other_new sent_after calls_after
   pub urgent_kept : urgent_new ≡ urgent_old
 
--- once no message of the other was cut, what is urgent was sent; and no byte of the other after that, since something
--- flushed may be left of what is urgent
+-- once no front of the other was cut, what is urgent was sent; that is not at rest, so no byte of the other was sent
+-- after that
 pub record WaitsForUrgent (turns : ℕ) (urgent_old other_old : Connected) (sent_before : Option (List ℕ))
     (calls_before : Option (List Call)) (next : Next) (urgent_new other_new : Connected) (sent_after : Option (List ℕ))
     (calls_after : Option (List Call)) : Type 0 where
@@ -129,7 +130,7 @@ pub record WaitsForUrgent (turns : ℕ) (urgent_old other_old : Connected) (sent
   pub urgent_spins : Spins turns urgent_old sent_between calls_between next urgent_new sent_after calls_after
   pub unrest : ¬ (next ≡ Rest)
 
--- once no message of the other was cut, what is urgent was sent until nothing flushed was left of it; and the other was
+-- once no front of the other was cut, what is urgent was sent until nothing flushed was left of it, and the other was
 -- sent after that
 pub record SendsBoth (turns : ℕ) (urgent_old other_old : Connected) (sent_before : Option (List ℕ))
     (calls_before : Option (List Call)) (next : Next) (urgent_new other_new : Connected) (sent_after : Option (List ℕ))

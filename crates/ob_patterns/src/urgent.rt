@@ -3,7 +3,8 @@ ghost use Rattle.std.specs.Prelude.{◌≡◌, IfNone, IfSome, false, true};
 ghost use Rattle.ob_connection.specs.Connected.{Gives};
 ghost use Rattle.ob_patterns.specs.Saying.{Says};
 ghost use Rattle.ob_patterns.specs.declared.next.Next.TheVariants.{Rest};
-ghost use Rattle.ob_patterns.specs.Urgent.{EndsCut, LeavesCut, SaysOfBoth, SendsUrgentFirst, cut_after, is_left, next_by, next_of_cut};
+ghost use Rattle.ob_patterns.specs.Urgent.{EndsCut, LeavesCut, SaysOfBoth, SendsUrgentFirst};
+ghost use Rattle.ob_patterns.specs.Urgent.{cut_after, is_left, next_by, next_of_cut};
 
 use crate::next::Next;
 use crate::turns::{give_up_broken, spin};
@@ -16,8 +17,9 @@ use ob_types::Message;
 /// The rest of such a message is offered once, and alone. Nothing else is sent until the socket has taken all of it.
 /// Then `urgent` is sent as `spin` does it, in at most `turns` turns, and `other` after it if `urgent` is at rest.
 ///
-/// `Rest` comes if nothing flushed is left of both. Anything else is said of the connection that stopped, and what comes
-/// after that connection was not sent. If the socket is broken that one is given up for `BROKEN`: give up the other too.
+/// `Rest` comes if nothing flushed is left of both. Anything else is said of the connection that stopped, and then
+/// nothing was sent after what that one sent. If the socket is broken that one is given up for `BROKEN`: give up the
+/// other too.
 pub fn send_urgent_first<S: Socket>(
     urgent: &mut Connection,
     other: &mut Connection,

@@ -14,5 +14,5 @@ returns-in-Ok-clause-left g c =
 pub returns-in-Err-Broken-clause-left : goal.returns-in-Err-Broken-clause-left
 returns-in-Err-Broken-clause-left g c =
     let fault = c.in-Err-Broken in
-    fails_at_cut fault.field-0 fault.error fault.field-0-is fault.ensures.kept c.if-not-is_cut.ensures fault.ensures.asks
-    fault.ensures.unsent c.give_up_broken.ensures.given_up
+    fails_at_cut fault.field-0 fault.error fault.field-0-is fault.ensures.kept c.if-not-is_cut.ensures
+    fault.ensures.asks fault.ensures.unsent c.give_up_broken.ensures.given_up
