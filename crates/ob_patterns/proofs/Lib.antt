@@ -1,3 +1,4 @@
+pub mod Cut
 pub mod Flushing
 pub mod GivenUp
 pub mod Pieces

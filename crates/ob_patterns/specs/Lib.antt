@@ -3,3 +3,4 @@ pub mod Broadcasting
 pub mod Chunking
 pub mod Saying
 pub mod Sending
+pub mod Urgent

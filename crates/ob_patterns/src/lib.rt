@@ -8,6 +8,7 @@ mod many;
 mod next;
 mod proxy;
 mod turns;
+mod urgent;
 mod writers;
 
 pub use answers::respond;
@@ -17,4 +18,5 @@ pub use many::{LeftOut, Reached, TOO_SLOW, broadcast, give_up_if_slow, hand};
 pub use next::Next;
 pub use proxy::{forward, forwarded};
 pub use turns::{BROKEN, Peer, serve, spin};
+pub use urgent::send_urgent_first;
 pub use writers::respond_from_any_thread;

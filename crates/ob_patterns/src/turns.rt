@@ -37,7 +37,7 @@ pub fn spin<S: Socket>(connection: &mut Connection, socket: &mut S, turns: u32) 
 }
 
 /// Gives a connection up whose socket is broken.
-fn give_up_broken(connection: &mut Connection)
+pub fn give_up_broken(connection: &mut Connection)
     ensures closed { Gives connection.new closed_after true }
     ensures given_up { IsGivenUp connection.old broken connection.new }
 {

@@ -3,6 +3,7 @@
 
 mod many;
 mod turns;
+mod urgent;
 
 use crate::tests::connection::open;
 use bytes::Bytes;

@@ -46,9 +46,9 @@ fn responds(connection: &mut Connection, socket: &mut Slow) -> Result<(Said, boo
 }
 
 /// What is next, or the kind of the error that a socket broke with.
-type Said = Result<&'static str, io::ErrorKind>;
+pub type Said = Result<&'static str, io::ErrorKind>;
 
-fn said(next: Next) -> Said {
+pub fn said(next: Next) -> Said {
     match next {
         Next::Rest => Ok("rest"),
         Next::WaitForRoom => Ok("wait for room"),
