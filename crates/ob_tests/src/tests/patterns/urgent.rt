@@ -65,15 +65,8 @@ fn the_rest_of_a_cut_message_goes_first(rt: HostRuntime) -> Result<(), Fail> {
     let first = both.send(8);
     let size = both.urgent.look().size;
     let second = both.send(8);
-    assert_eq!(rt;
-        (first, size, second, both.socket.log.as_slice()),
-        (
-            Ok("come again"),
-            1,
-            Ok("rest"),
-            b"messagestopdata".as_slice()
-        )
-    );
+    assert_eq!(rt; (first, size, second), (Ok("come again"), 1, Ok("rest")));
+    assert_eq!(rt; both.socket.log.as_slice(), b"messagestopdata".as_slice());
     drop(both);
     Ok(())
 }
@@ -106,22 +99,19 @@ fn nothing_urgent_is_sent_into_a_cut_message(rt: HostRuntime) -> Result<(), Fail
 #[test]
 fn data_waits_until_nothing_urgent_is_left(rt: HostRuntime) -> Result<(), Fail> {
     let mut both = Both::cut(rt.alloc(), 100)?;
-    let ended = both.send(1);
-    // the last byte of the message and three that are urgent; the fourth, and three of data; the last of data
-    let turns = [0; 4].map(|_| (both.send(1), both.socket.log.len()));
+    // three bytes of the message; its last and three that are urgent; the fourth, and three of data; the last of data
+    let turns = [0; 5].map(|_| (both.send(1), both.socket.log.len()));
     assert_eq!(rt;
-        (ended, turns, both.socket.log.as_slice()),
-        (
-            Ok("come again"),
-            [
-                (Ok("come again"), 10),
-                (Ok("come again"), 14),
-                (Ok("rest"), 15),
-                (Ok("rest"), 15)
-            ],
-            b"messagestopdata".as_slice()
-        )
+        turns,
+        [
+            (Ok("come again"), 6),
+            (Ok("come again"), 10),
+            (Ok("come again"), 14),
+            (Ok("rest"), 15),
+            (Ok("rest"), 15)
+        ]
     );
+    assert_eq!(rt; both.socket.log.as_slice(), b"messagestopdata".as_slice());
     drop(both);
     Ok(())
 }
@@ -141,15 +131,10 @@ fn a_region_that_is_cut_or_urgent_is_sent_by_other_means(rt: HostRuntime) -> Res
     let _flushed = both.urgent.flush()?;
     let urgent = both.send(8);
     assert_eq!(rt;
-        (cut, size, ended, urgent, both.socket.log.as_slice()),
-        (
-            Ok("send front"),
-            1,
-            Ok("rest"),
-            Ok("send front"),
-            b"messtop".as_slice()
-        )
+        (cut, size, ended, urgent),
+        (Ok("send front"), 1, Ok("rest"), Ok("send front"))
     );
+    assert_eq!(rt; both.socket.log.as_slice(), b"messtop".as_slice());
     drop(both);
     Ok(())
 }
@@ -164,14 +149,10 @@ fn a_closed_connection_stops_what_comes_after(rt: HostRuntime) -> Result<(), Fai
     let _given_up = next.other.give_up(Cause(7))?;
     let other = next.send(8);
     assert_eq!(rt;
-        (told, sent, other, next.socket.log.as_slice()),
-        (
-            [Ok("come again"), Ok("closed")],
-            7,
-            Ok("closed"),
-            b"messtop".as_slice()
-        )
+        (told, sent, other),
+        ([Ok("come again"), Ok("closed")], 7, Ok("closed"))
     );
+    assert_eq!(rt; next.socket.log.as_slice(), b"messtop".as_slice());
     drop((both, next));
     Ok(())
 }
@@ -185,13 +166,13 @@ fn who_finds_the_socket_broken_is_given_up(rt: HostRuntime) -> Result<(), Fail> 
     let second = both.send(8);
     let after = (both.urgent.is_closed(), both.other.is_closed());
     assert_eq!(rt;
-        (first, closed, second, after, both.socket.log.as_slice()),
+        (first, closed, second, after, both.socket.log.len()),
         (
             Err(io::ErrorKind::ConnectionReset),
             (false, true),
             Err(io::ErrorKind::ConnectionReset),
             (true, true),
-            b"mes".as_slice()
+            3
         )
     );
     drop(both);
