@@ -9,7 +9,6 @@ mod commands;
 mod copying;
 mod giving_up;
 mod looks;
-mod parts;
 mod sending;
 mod ticking;
 mod write;
