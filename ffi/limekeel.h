@@ -914,8 +914,9 @@ struct limekeel_pressed_sent {
 LIMEKEEL_TOLD struct limekeel_pressed_sent limekeel_budgeted_send(struct limekeel_budgeted *budgeted, int socket,
                                                                   uint32_t max_turns);
 
-/* Messages that are made in place, as by a serializer, in memory that small ones share: reserve room, fill it, write it. These
- * are in room.c, over limekeel_write_lent. One connection has one of these, which is let go of as messages are taken away. */
+/* Messages that are made in place, as by a serializer, in memory that small ones share: reserve room, fill it, write it. A server
+ * with many small answers makes one message of all that it answers in a turn: that costs a tenth. These are in room.c, over
+ * limekeel_write_lent. One connection has one of these, which is let go of as messages are taken away. */
 struct limekeel_chunk;
 struct limekeel_rooms {
     struct limekeel_chunk *first, *last; /* Limekeel's */
@@ -926,13 +927,22 @@ struct limekeel_rooms {
 #define LIMEKEEL_ROOMS {0}
 #endif
 
-/* Where a message of at most `most` bytes may be made, or NULL if memory is refused. It is good until the next of these three
- * calls. */
+/* Where a message of at most `most` bytes may be made, or NULL if memory is refused. It is good until the next reserve, write
+ * or let go. */
 uint8_t *limekeel_reserve(struct limekeel_rooms *rooms, size_t most);
 
-/* Writes the first `length` bytes there, at most as many as were reserved, as limekeel_write_lent does. */
+/* How many bytes there is room for there: at least as many as were reserved, since small messages share memory. */
+size_t limekeel_left(const struct limekeel_rooms *rooms);
+
+/* Writes the first `length` bytes there, at most as many as there is room for, as limekeel_write_lent does. */
 LIMEKEEL_TOLD struct limekeel_written limekeel_write_reserved(struct limekeel_rooms *rooms, struct limekeel_connection *connection,
                                                               size_t length);
+
+/* The same of a managed connection, and of one that a budget covers. */
+LIMEKEEL_TOLD struct limekeel_written limekeel_managed_write_reserved(struct limekeel_rooms *rooms,
+                                                                      struct limekeel_managed *managed, size_t length);
+LIMEKEEL_TOLD struct limekeel_pressed_written limekeel_budgeted_write_reserved(struct limekeel_rooms *rooms,
+                                                                               struct limekeel_budgeted *budgeted, size_t length);
 
 /* Frees what only messages below this promise lie in. Call it with the `to` of each limekeel_taken, or after limekeel_remove
  * with one more than its promise; and with UINT64_MAX after limekeel_free, which frees all. */

@@ -249,12 +249,14 @@ static struct limekeel_written in_parts(struct side *side, const uint8_t *bytes,
 static void makes_bytes(struct side *side, struct row row)
 {
     allocating("reserve");
-    uint8_t *room = limekeel_reserve(&side->rooms, row.number + below(60));
+    size_t most = row.number + below(60);
+    uint8_t *room = limekeel_reserve(&side->rooms, most);
     if (!room) {
         same("a refused reservation", refused, true);
         free((void *)(uintptr_t)row.bytes);
         return;
     }
+    same("as many as were reserved", limekeel_left(&side->rooms) >= most, true);
     memcpy(room, row.bytes, row.number);
     allocating("write_reserved");
     written(side, limekeel_write_reserved(&side->rooms, &side->connection, row.number), row);

@@ -23,13 +23,13 @@ use Rattle.ob_lifecycle.specs.Managed.{Managed, StandsFor, StandsForSome, Brings
 use Rattle.ob_lifecycle.specs.Sendings.{sending_happens, giving_up_happens}
 use Rattle.std.specs.Prelude.{is_ok, if◌then◌else◌}
 use Rattle.ob_seq.specs.State.{empty_after}
-use Rattle.ob_lifecycle.specs.Stalls.{names_by, rested, told_time, ticked, watch_after, watched, watched_by}
+use Rattle.ob_lifecycle.specs.Stalls.{TookNothing, is_named, names_by, rested, told_time, ticked, watch_after, watched, watched_by}
 use Rattle.ob_lifecycle.specs.declared.watch.Watch.{Watch}
 use Rattle.ob_lifecycle.specs.Strain.{change_in, strain_after, strained}
 use Rattle.ob_lifecycle.specs.declared.strain.Strain.{Strain}
 use Rattle.ob_types.specs.declared.reply.Change.{Change}
 use Rattle.ob_seq.specs.State.{writable_after}
-use Rattle.ob_lifecycle.proofs.Stalling.{now_empty}
+use Rattle.ob_lifecycle.proofs.Stalling.{named_at_last, now_empty}
 use Rattle.ob_lifecycle.proofs.Straining.{pass_fits, strain_asked, strains_refused, strains_ticked, strains_up}
 use Rattle.ob_lifecycle.proofs.Watching.{watch_more}
 use Rattle.ob_lifecycle.specs.declared.ending.Ending.{Ending}
@@ -333,6 +333,17 @@ pub names_at : (old : Managed) (watch : Watch) (empty : Bool) (now : ℕ) (named
 names_at old watch empty now named empties is told events stands =
     told ∙ ap (λ w. w.named && not old.ending.watch.named) (ticks_to old watch empty now empties is events stands)
     ∙ ap (λ w. (watch_after (opened_as old) (events ++ Ticked now ∷ [])).named && not w.named) stands.watch
+
+-- a peer that took nothing stands named after the tick, whatever events are told of
+pub stands_named : (old new : Managed) (now : ℕ) (before between : List Event) (first : ℕ) → Brings old (Ticked now ∷ []) false new
+    → StandsFor old (before ++ Ticked first ∷ between) → TookNothing (opened_as old) before first between now
+    → Gives new is_named true
+stands_named old new now before between first brings stands took events other =
+    let all = (before ++ Ticked first ∷ between) ++ Ticked now ∷ [] in
+    let named : new.ending.watch.named ≡ true =
+    ap (λ w. w.named) (brings.stands (before ++ Ticked first ∷ between) stands).watch
+    ∙ ap (λ opened. is_named opened all) brings.opened ∙ named_at_last (opened_as old) before between first now took in
+    sym named ∙ ap (λ w. w.named) other.watch
 
 -- a shrink keeps what the connection stands for
 shrunk_connection : (old new : Connected) → Shrinks old new → (commands : List Command) → ConnectionStandsFor old commands

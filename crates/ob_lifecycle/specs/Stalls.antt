@@ -72,10 +72,13 @@ abbrev pub watch_after : Opened → List Event → Watch
 watch_after opened events =
     watched_from opened [] (record { now = opened.now; since = None; taken = 0; named = false }) events
 
+-- whether the peer stands named, and has not taken enough since
+abbrev pub is_named : Opened → List Event → Bool
+is_named opened events = (watch_after opened events).named
+
 -- whether a tick names the peer
 abbrev pub names_by : ℕ → Opened → List Event → Bool
-names_by now opened earlier =
-    (watch_after opened (earlier ++ Ticked now ∷ [])).named && not (watch_after opened earlier).named
+names_by now opened earlier = is_named opened (earlier ++ Ticked now ∷ []) && not (is_named opened earlier)
 
 -- how many bytes the peer took by an event
 abbrev pub taken_by : ℕ → Event → ℕ

@@ -9,6 +9,7 @@ mod commands;
 mod copying;
 mod giving_up;
 mod looks;
+mod parts;
 mod sending;
 mod ticking;
 mod write;

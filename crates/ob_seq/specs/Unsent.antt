@@ -84,7 +84,7 @@ ended outcome entry = if entry.taken_back then Cancelled else outcome
 abbrev pub spares : Unsent → Bool
 spares unsent = nat_lt (waiting_count unsent) unsent.room
 
--- the room of a ring for one more than this many, if it had room for so many: as much if one place is to spare, and else
+-- the room of a ring for one more than these, if it had room for *n*: as much if one place is to spare, and else
 -- for as many again, and for 8 more at least
 abbrev pub grown_room : ℕ → ℕ → ℕ
 grown_room count room = if nat_lt count room then room else count + max 8 count

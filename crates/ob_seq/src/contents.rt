@@ -34,6 +34,17 @@ pub use take::Front;
 /// No call goes over entries that it neither takes away, voids nor hands out, but for the one where it ends: the bytes
 /// that are pending are kept as they change, a flush moves the end of the line behind the last entry, and a removal
 /// takes the first of them off the ring. A flush looks at each entry that it reaches only if one of them may be voided.
+///
+/// ```text
+///   taken away       in line: flushed             no flush has reached these
+///     from here   0 .. flushed - 1             flushed .. entries.len() - 1
+///               [ front |   |   |   ]          [   |   |   |   newest ]  <- a write adds here
+///                 |  the first message:          |  the next flush goes from here
+///                 |  `current`, `progress`       |  to the end (Netty's `unflushedEntry`)
+///                    (Netty's `flushedEntry`)
+/// ```
+///
+/// The ring has no gap: a voided entry stays in line, as an empty block that counts nothing, until it is taken away.
 #[derive(Debug, Drop)]
 pub struct Contents {
     /// The marks of the opening. No call reads them: contracts judge a history by what its buffer was opened with.

@@ -68,15 +68,24 @@ impl ManagedConnection {
         ensures room { TakesNoRoom self.old.connection self.new.connection }
         ensures brings { Brings self.old (happens Remove result.answer) result.finished self.new }
     {
-        let answer = self.connection.remove();
-        self.ending.watch.after(
-            answer.is_ok(),
-            self.limits.least_bytes,
-            self.connection.is_empty(),
-        );
-        self.strain.told(changes::of_removal(&answer));
-        let finished = self.ending.reach(self.connection.waiting_count());
-        Told { answer, finished }
+        match self.connection.remove() {
+            Ok(removed) => {
+                let enough = self.limits.least_bytes;
+                self.ending
+                    .watch
+                    .after(true, enough, self.connection.is_empty());
+                self.strain.changed(removed.change);
+                let finished = self.ending.reach(self.connection.waiting_count());
+                Told {
+                    answer: Ok(removed),
+                    finished,
+                }
+            }
+            Err(refusal) => Told {
+                answer: Err(self.strain.declined(refusal)),
+                finished: false,
+            },
+        }
     }
 
     /// As `Connection::remove_with`.
@@ -103,13 +112,21 @@ impl ManagedConnection {
         ensures room { TakesNoRoom self.old.connection self.new.connection }
         ensures brings { Brings self.old (happens (RemoveBytes n) result.answer) result.finished self.new }
     {
-        let answer = self.connection.take_sent(n);
-        self.ending
-            .watch
-            .after(answer.is_ok(), n, self.connection.is_empty());
-        self.strain.told(changes::of_taking(&answer));
-        let finished = self.ending.reach(self.connection.waiting_count());
-        Told { answer, finished }
+        match self.connection.take_sent(n) {
+            Ok(taken) => {
+                self.ending.watch.after(true, n, self.connection.is_empty());
+                self.strain.changed(taken.change);
+                let finished = self.ending.reach(self.connection.waiting_count());
+                Told {
+                    answer: Ok(taken),
+                    finished,
+                }
+            }
+            Err(refusal) => Told {
+                answer: Err(self.strain.declined(refusal)),
+                finished: false,
+            },
+        }
     }
 
     /// As `Connection::progress`.

@@ -1,9 +1,10 @@
 //! Messages that are written as bytes.
 
-ghost use Rattle.std.specs.Prelude.{◌≡◌, IfSome, Some, None};
+ghost use Rattle.std.specs.Prelude.{◌≡◌, IfSome, Some, None, Err};
 ghost use Rattle.ob_types.specs.declared.command.Command.TheVariants.{Write};
 ghost use Rattle.ob_types.specs.declared.message.Message.TheVariants.{Block};
 ghost use Rattle.ob_connection.specs.Obeying.{Accepts};
+ghost use Rattle.ob_lifecycle.specs.Inside.{FitsIn};
 ghost use Rattle.ob_lifecycle.specs.Managed.{Gives};
 ghost use Rattle.ob_lifecycle.specs.Writes.{IsNotWritten, WritesTo, fault_of_write};
 
@@ -18,9 +19,8 @@ impl ManagedConnection {
     pub fn write_copy(&mut self, bytes: &[u8]) -> Result<Written, WriteFault>
         ensures { WritesTo (λ why. why) (Block bytes.now) self.old result self.new }
     {
-        let size = pending_size_of_block(bytes, self.connection.estimate());
-        let Some(sum) = self.bytes_with(size) else {
-            return Err(self.refuse(size.is_ok()));
+        let Some(sum) = self.bytes_with_block(bytes) else {
+            return Err(self.refuse_block(bytes));
         };
         match self.connection.write_copy(bytes) {
             Ok(written) => {
@@ -31,6 +31,30 @@ impl ManagedConnection {
             }
             Err(refusal) => Err(self.strain.refused(WriteFault::Refused(refusal))),
         }
+    }
+
+    /// The bytes of all that was accepted with a block of these bytes, if there is room for it.
+    // One that is too large to be counted may have room, and then the connection refuses it.
+    #[inline(always)]
+    fn bytes_with_block(&self, bytes: &[u8]) -> Option<u64>
+        ensures { FitsIn (Block bytes.now) self.now result }
+    {
+        let size = bytes.len() as u64 + u64::from(self.connection.estimate().overhead);
+        let pending = u64::from(self.connection.look().total);
+        if self.ending.asked || pending + size > u64::from(self.limits.most_pending) {
+            return None;
+        }
+        self.tally.bytes_with(size)
+    }
+
+    /// Refuses a write of a block of these bytes, for which there is no room, and counts that.
+    #[cold]
+    #[inline(never)]
+    fn refuse_block(&mut self, bytes: &[u8]) -> WriteFault
+        ensures { FitsIn (Block bytes.now) self.old None → WritesTo (λ why. why) (Block bytes.now) self.old (Err result) self.new }
+    {
+        let size = pending_size_of_block(bytes, self.connection.estimate());
+        self.refuse(size.is_ok())
     }
 
     /// Writes the bytes of a block, which the message shares: no byte is copied. It is refused as `write_copy` is, and not

@@ -1,7 +1,7 @@
-ghost use Rattle.std.specs.Prelude.{◌≡◌, false, [], ◌∷◌};
-ghost use Rattle.ob_lifecycle.specs.Events.{Ticked};
-ghost use Rattle.ob_lifecycle.specs.Managed.{Brings, Gives};
-ghost use Rattle.ob_lifecycle.specs.Stalls.{names_by};
+ghost use Rattle.std.specs.Prelude.{◌≡◌, ℕ, List, false, true, [], ◌∷◌, ◌++◌};
+ghost use Rattle.ob_lifecycle.specs.Events.{Event, Ticked};
+ghost use Rattle.ob_lifecycle.specs.Managed.{Brings, Gives, StandsFor, opened_as};
+ghost use Rattle.ob_lifecycle.specs.Stalls.{TookLittle, TookNothing, is_named, names_by};
 
 use super::ManagedConnection;
 
@@ -11,6 +11,10 @@ impl ManagedConnection {
     /// to. It is named once, until it took as many or all. A time behind the last one tells nothing.
     pub fn tick(&mut self, now: u64) -> bool
         ensures named { Gives self.old (names_by now) result }
+        ensures little { (events : List Event) → StandsFor self.old events → result ≡ true
+            → TookLittle (opened_as self.old) events now }
+        ensures nothing { (before between : List Event) (first : ℕ) → StandsFor self.old (before ++ Ticked first ∷ between)
+            → TookNothing (opened_as self.old) before first between now → Gives self.new is_named true }
         ensures connection { self.new.connection ≡ self.old.connection }
         ensures brings { Brings self.old (Ticked now ∷ []) false self.new }
     {
