@@ -58,18 +58,50 @@ uint8_t *limekeel_reserve(struct limekeel_rooms *rooms, size_t most)
     return chunk->bytes;
 }
 
+size_t limekeel_left(const struct limekeel_rooms *rooms)
+{
+    return rooms->last ? rooms->last->size - rooms->last->used : 0;
+}
+
 _Static_assert(sizeof(struct limekeel_chunk) % 16 == 0, "the bytes of a chunk follow it");
+
+/* Where the next message lies, if it has a byte. */
+static const uint8_t *next_message(const struct limekeel_rooms *rooms)
+{
+    return rooms->last ? rooms->last->bytes + rooms->last->used : NULL;
+}
+
+/* The chunk stays for a message that was written. */
+static void keep_for(struct limekeel_rooms *rooms, struct limekeel_written written, size_t length)
+{
+    if (written.status == LIMEKEEL_OK && rooms->last) {
+        rooms->last->used += length;
+        rooms->last->end = written.id + 1;
+    }
+}
 
 struct limekeel_written limekeel_write_reserved(struct limekeel_rooms *rooms, struct limekeel_connection *connection,
                                                 size_t length)
 {
-    struct limekeel_chunk *last = rooms->last;
-    struct limekeel_written written = limekeel_write_lent(connection, last ? last->bytes + last->used : NULL, length);
-    if (written.status == LIMEKEEL_OK && last) {
-        last->used += length;
-        last->end = written.id + 1;
-    }
+    struct limekeel_written written = limekeel_write_lent(connection, next_message(rooms), length);
+    keep_for(rooms, written, length);
     return written;
+}
+
+struct limekeel_written limekeel_managed_write_reserved(struct limekeel_rooms *rooms, struct limekeel_managed *managed,
+                                                        size_t length)
+{
+    struct limekeel_written written = limekeel_managed_write_lent(managed, next_message(rooms), length);
+    keep_for(rooms, written, length);
+    return written;
+}
+
+struct limekeel_pressed_written limekeel_budgeted_write_reserved(struct limekeel_rooms *rooms,
+                                                                 struct limekeel_budgeted *budgeted, size_t length)
+{
+    struct limekeel_pressed_written told = limekeel_budgeted_write_lent(budgeted, next_message(rooms), length);
+    keep_for(rooms, told.written, length);
+    return told;
 }
 
 void limekeel_let_go(struct limekeel_rooms *rooms, uint64_t end)

@@ -1,15 +1,5 @@
 /* The queue of a connection by Limekeel. */
-#include "queue.h"
-
-uint64_t queue_stops;
-
-static void note(struct queue *queue, uint32_t change)
-{
-    if (change == LIMEKEEL_UNWRITABLE)
-        queue->writable = false, queue_stops++;
-    else if (change == LIMEKEEL_WRITABLE)
-        queue->writable = true;
-}
+#include "queue_ours.h"
 
 void queue_open(struct queue *queue, uint32_t low, uint32_t high)
 {
@@ -22,13 +12,13 @@ void queue_free(struct queue *queue)
     limekeel_free(&queue->connection);
 }
 
-static bool was_written(struct queue *queue, struct limekeel_written written)
+static enum written was_written(struct queue *queue, struct limekeel_written written)
 {
     note(queue, written.change);
-    return written.status == LIMEKEEL_OK;
+    return written.status == LIMEKEEL_OK ? WRITTEN : NOT_WRITTEN;
 }
 
-bool queue_write(struct queue *queue, const uint8_t *bytes, uint32_t size)
+enum written queue_write(struct queue *queue, const uint8_t *bytes, uint32_t size)
 {
     return was_written(queue, limekeel_write(&queue->connection, bytes, size));
 }
@@ -40,7 +30,7 @@ bool queue_shared_begin(const uint8_t *bytes, uint32_t size)
     return limekeel_block_new(&block, bytes, size) == LIMEKEEL_OK;
 }
 
-bool queue_shared_write(struct queue *queue)
+enum written queue_shared_write(struct queue *queue)
 {
     return was_written(queue, limekeel_write_block(&queue->connection, &block));
 }
@@ -55,12 +45,7 @@ enum sent queue_send(struct queue *queue, int socket, uint32_t turns)
     note(queue, limekeel_flush(&queue->connection).change);
     struct limekeel_sent sent = limekeel_send(&queue->connection, socket, turns);
     note(queue, sent.taken.change);
-    switch (sent.ending) {
-    case LIMEKEEL_ENDED_DRAINED: return sent.status == LIMEKEEL_OK ? SENT_ALL : SENT_BROKEN;
-    case LIMEKEEL_ENDED_BLOCKED: return SENT_BLOCKED;
-    case LIMEKEEL_ENDED_BY_TURNS: return SENT_SOME;
-    default: return SENT_BROKEN;
-    }
+    return how_it_ended(sent);
 }
 
 uint64_t queue_pending(const struct queue *queue)

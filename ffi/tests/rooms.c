@@ -118,6 +118,34 @@ static void lie_together(void)
     expect("and lets it go", rooms.first == NULL);
 }
 
+/* Several answers as one message, up to the last byte that there is room for. Returns the next promise. */
+static size_t one_of_several(size_t first)
+{
+    static uint8_t wanted[4 * LONGEST + 16];
+    expect("nothing is left in none", limekeel_left(&rooms) == 0);
+    uint8_t *room = limekeel_reserve(&rooms, 4 * LONGEST);
+    size_t left = limekeel_left(&rooms), filled = 0;
+    expect("as many as were reserved", room != NULL && left >= 4 * LONGEST && left <= sizeof wanted);
+    while (left - filled > 2 * LONGEST)
+        filled += text_of(filled, room + filled, LONGEST);
+    memset(room + filled, 'x', left - filled);
+    memcpy(wanted, room, left);
+    expect("it is written", limekeel_write_reserved(&rooms, &connection, left).id == first);
+    expect("nothing is left of it", limekeel_left(&rooms) == 0);
+    made(first + 1, LONGEST);
+    expect("flush", limekeel_flush(&connection).count == 2);
+    struct limekeel_piece pieces[2];
+    expect("two messages", limekeel_gather(&connection, pieces, 2, UINT32_MAX).count == 2);
+    expect("as it was made", pieces[0].length == left && memcmp(pieces[0].at, wanted, left) == 0);
+    struct limekeel_taken gone = limekeel_take_sent(&connection, left);
+    expect("one promise", gone.count == 1 && gone.to == first + 1);
+    limekeel_let_go(&rooms, gone.to);
+    expect("the other stays", rooms.first != NULL && rooms.first == rooms.last);
+    limekeel_let_go(&rooms, limekeel_fail_flushed(&connection, 1, true).to);
+    expect("and goes", rooms.first == NULL);
+    return first + 2;
+}
+
 /* A write that is refused memory, behind others in the chunk: they stay, and it can be made again. Returns the next promise. */
 static size_t a_refused_write(size_t first)
 {
@@ -176,12 +204,71 @@ static void refusals(size_t first)
     expect("nothing is live", live == 0 && rooms.first == NULL);
 }
 
+/* What two messages of these texts are, taken away by their bytes. */
+static void came(struct limekeel_piece *pieces, uint32_t count, const char *first, const char *second)
+{
+    expect("two messages", count == 2);
+    expect("as the first was made", pieces[0].length == strlen(first) && memcmp(pieces[0].at, first, pieces[0].length) == 0);
+    expect("as the second was made", pieces[1].length == strlen(second) && memcmp(pieces[1].at, second, pieces[1].length) == 0);
+}
+
+static size_t made_of(struct limekeel_rooms *of, const char *text)
+{
+    uint8_t *room = limekeel_reserve(of, strlen(text));
+    expect("there is room", room != NULL);
+    memcpy(room, text, strlen(text));
+    return strlen(text);
+}
+
+static void of_a_managed_one(void)
+{
+    struct limekeel_managed managed = LIMEKEEL_MANAGED;
+    struct limekeel_rooms own = LIMEKEEL_ROOMS;
+    struct limekeel_limits limits = {.most_pending = 250, .window = 10, .least_bytes = 1};
+    struct limekeel_piece pieces[2] = {{NULL, 0}, {NULL, 0}};
+    expect("open", limekeel_managed_open(&managed, 32768, 65536, 96, 8, limits, 0) == LIMEKEEL_OK);
+    expect("first", limekeel_managed_write_reserved(&own, &managed, made_of(&own, "one")).id == 0);
+    expect("second", limekeel_managed_write_reserved(&own, &managed, made_of(&own, "and two")).id == 1);
+    expect("above its limit", limekeel_managed_write_reserved(&own, &managed, made_of(&own, "three")).status != LIMEKEEL_OK);
+    expect("flush", limekeel_managed_flush(&managed).flushed.count == 2);
+    came(pieces, (uint32_t)limekeel_managed_gather(&managed, pieces, 2, UINT32_MAX).count, "one", "and two");
+    limekeel_let_go(&own, limekeel_managed_take_sent(&managed, 10).taken.to);
+    expect("nothing is kept", own.first == NULL);
+    expect("free", limekeel_managed_free(&managed) == LIMEKEEL_OK);
+}
+
+static void of_one_within_a_budget(void)
+{
+    struct limekeel_budget budget = LIMEKEEL_BUDGET;
+    struct limekeel_budgeted budgeted = LIMEKEEL_BUDGETED;
+    struct limekeel_rooms own = LIMEKEEL_ROOMS;
+    struct limekeel_piece pieces[2] = {{NULL, 0}, {NULL, 0}};
+    expect("a budget", limekeel_budget_open(&budget, 300, 100, 150, 0) == LIMEKEEL_OK);
+    expect("open", limekeel_open_within(&budgeted, 32768, 65536, 96, 8, &budget) == LIMEKEEL_OK);
+    struct limekeel_pressed_written told = limekeel_budgeted_write_reserved(&own, &budgeted, made_of(&own, "one"));
+    expect("first", told.written.id == 0 && told.pressure == LIMEKEEL_PRESSURE_UNCHANGED);
+    told = limekeel_budgeted_write_reserved(&own, &budgeted, made_of(&own, "and two"));
+    expect("second", told.written.id == 1 && told.pressure == LIMEKEEL_PRESSURE_BEGAN);
+    told = limekeel_budgeted_write_reserved(&own, &budgeted, made_of(&own, "three"));
+    expect("over the budget", told.written.status == LIMEKEEL_OVER_BUDGET);
+    expect("flush", limekeel_budgeted_flush(&budgeted).flushed.count == 2);
+    came(pieces, (uint32_t)limekeel_budgeted_gather(&budgeted, pieces, 2, UINT32_MAX).count, "one", "and two");
+    struct limekeel_pressed_taken gone = limekeel_budgeted_take_sent(&budgeted, 10);
+    expect("pressure ends", gone.pressure == LIMEKEEL_PRESSURE_ENDED);
+    limekeel_let_go(&own, gone.taken.to);
+    expect("nothing is kept", own.first == NULL);
+    expect("free", limekeel_budgeted_free(&budgeted).status == LIMEKEEL_OK && limekeel_budget_free(&budget) == LIMEKEEL_OK);
+}
+
 int main(void)
 {
     expect("open", limekeel_open(&connection, 32768, 65536, 96, 8) == LIMEKEEL_OK);
     come_in_order();
     lie_together();
-    refusals(a_refused_write(2 * MANY));
+    refusals(a_refused_write(one_of_several(2 * MANY)));
+    of_a_managed_one();
+    of_one_within_a_budget();
+    expect("nothing is live", live == 0);
     puts("what is made in place comes in order, and goes");
     return 0;
 }

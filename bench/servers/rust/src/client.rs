@@ -2,10 +2,18 @@ use crate::protocol::Work;
 use crate::system::READABLE;
 use limekeel::{Block, Change, Connection, Estimate, Marks, Refusal};
 use std::io::{self, Read};
+use std::mem::take;
 use std::net::TcpStream;
 
 /// How often one client sends before the others have their turn: Netty's write spin count.
 pub const TURNS: u32 = 16;
+
+/// Whether what is answered in a turn is one message.
+const IS_JOINED: bool = cfg!(feature = "joined");
+/// Up to how many bytes an answer is joined to others.
+const FEW: usize = 2048;
+/// With how many a message is ended, so that the marks know of it.
+const MUCH: usize = 8192;
 
 /// What became of a sending.
 #[derive(PartialEq, Eq)]
@@ -21,6 +29,8 @@ pub enum Next {
 pub struct Client {
     pub socket: TcpStream,
     connection: Connection,
+    /// What was answered since the last message, if answers are joined.
+    answers: Vec<u8>,
     pub work: Work,
     /// Whether writers may go on, as the last change said.
     pub is_writable: bool,
@@ -42,6 +52,7 @@ impl Client {
         Ok(Client {
             socket,
             connection: Connection::open(Marks::default(), Estimate::default())?,
+            answers: Vec::new(),
             work: Work::default(),
             is_writable: true,
             stops: 0,
@@ -65,19 +76,40 @@ impl Client {
     }
 
     pub fn write(&mut self, bytes: &[u8]) -> Result<(), Refusal> {
+        if IS_JOINED && bytes.len() <= FEW {
+            if self.answers.capacity() == 0 {
+                self.answers.reserve(FEW);
+            }
+            self.answers.extend_from_slice(bytes);
+            return if self.answers.len() < MUCH { Ok(()) } else { self.end_message() };
+        }
+        self.end_message()?;
         let written = self.connection.write(bytes)?;
         self.note(written.change);
         Ok(())
     }
 
     pub fn write_block(&mut self, block: &Block) -> Result<(), Refusal> {
+        if IS_JOINED && block.len() <= FEW {
+            return self.write(block);
+        }
+        self.end_message()?;
         let written = self.connection.write_block(block)?;
         self.note(written.change);
         Ok(())
     }
 
+    /// Makes one message of what was answered since the last one.
+    fn end_message(&mut self) -> Result<(), Refusal> {
+        if !self.answers.is_empty() {
+            let written = self.connection.write_owned(take(&mut self.answers))?;
+            self.note(written.change);
+        }
+        Ok(())
+    }
+
     pub fn pending(&self) -> u64 {
-        u64::from(self.connection.look().total)
+        u64::from(self.connection.look().total) + self.answers.len() as u64
     }
 
     /// Reads once, and returns how many bytes came; none if there are none now.
@@ -91,6 +123,7 @@ impl Client {
     }
 
     pub fn send(&mut self) -> io::Result<Next> {
+        self.end_message().map_err(io::Error::other)?;
         let flushed = self.connection.flush().map_err(io::Error::other)?;
         self.note(flushed.change);
         for _ in 0..TURNS {
