@@ -14,7 +14,9 @@ import java.nio.ByteBuffer;
 import java.nio.ByteOrder;
 import java.util.ArrayDeque;
 import java.util.ArrayList;
+import java.util.HashSet;
 import java.util.List;
+import java.util.Set;
 
 /**
  * The same server over Netty (NIO, one worker loop), with its defaults: marks of 32768 and 65536, pooled buffers. It
@@ -43,6 +45,7 @@ public final class NettyServer {
     private static long open;
     private static long responses;
     private static final List<ChannelHandlerContext> joined = new ArrayList<>();
+    private static final Set<Channel> all = new HashSet<>();
     private static int held;
     private static Runnable publisher;
 
@@ -70,11 +73,13 @@ public final class NettyServer {
         @Override
         public void channelActive(ChannelHandlerContext ctx) {
             open++;
+            all.add(ctx.channel());
         }
 
         @Override
         public void channelInactive(ChannelHandlerContext ctx) {
             open--;
+            all.remove(ctx.channel());
             joined.remove(ctx);
             noteHeld(ctx, false);
             if (!work.isEmpty() && work.peek().op == PUBLISH) {
@@ -220,11 +225,20 @@ public final class NettyServer {
             return make(ctx, request, index);
         }
 
+        private static long pending() {
+            long sum = 0;
+            for (Channel channel : all) {
+                ChannelOutboundBuffer buffer = channel.unsafe().outboundBuffer();
+                sum += buffer == null ? 0 : buffer.totalPendingWriteBytes();
+            }
+            return sum;
+        }
+
         private static ByteBuf stats(ChannelHandlerContext ctx, Request request) {
             ByteBuf response = ctx.alloc().buffer(STATS_SIZE);
             response.writeIntLE(request.id).writeIntLE(0).writeIntLE(STATS_SIZE).writeIntLE(MAGIC);
             response.writeLongLE(peak).writeLongLE(stops).writeLongLE(open).writeLongLE(responses);
-            return response.writeLongLE(0).writeLongLE(0);
+            return response.writeLongLE(pending()).writeLongLE(0);
         }
     }
 

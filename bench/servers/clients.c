@@ -50,6 +50,14 @@ double time_at(const struct times *times, double part)
     return 0;
 }
 
+static in_addr_t source;
+static const int segment = 1448;
+
+void clients_come_from(unsigned number)
+{
+    source = INADDR_LOOPBACK + 1 + number / 20000;
+}
+
 struct client *client_connected(int port, int receive_room, uint32_t base)
 {
     struct sockaddr_in address = {
@@ -65,6 +73,12 @@ struct client *client_connected(int port, int receive_room, uint32_t base)
         setsockopt(client->socket, SOL_SOCKET, SO_RCVBUF, &receive_room, sizeof receive_room);
     struct linger at_once = {1, 0}; /* else thousands of ports would wait */
     setsockopt(client->socket, SOL_SOCKET, SO_LINGER, &at_once, sizeof at_once);
+    struct sockaddr_in own = {.sin_family = AF_INET, .sin_addr.s_addr = htonl(source)};
+    setsockopt(client->socket, IPPROTO_IP, IP_BIND_ADDRESS_NO_PORT, &one, sizeof one);
+    if (source
+        && (setsockopt(client->socket, IPPROTO_TCP, TCP_MAXSEG, &segment, sizeof segment)
+            || bind(client->socket, (struct sockaddr *)&own, sizeof own)))
+        die("bind");
     if (connect(client->socket, (struct sockaddr *)&address, sizeof address))
         die("connect");
     return client;

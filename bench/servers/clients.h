@@ -36,6 +36,10 @@ uint64_t now(void);
 _Noreturn void die(const char *what);
 double time_at(const struct times *times, double part);
 
+/* Has clients come from an address of loopback for this one of many, since one has some 28,000 ports, and with segments as of
+ * Ethernet, by which the system takes as little for a socket as on a network. */
+void clients_come_from(unsigned number);
+
 /* A client that is connected, with a receive buffer of this size if that is not 0. */
 struct client *client_connected(int port, int receive_room, uint32_t base);
 

@@ -1,10 +1,12 @@
 /*
  * A server over epoll in C, of one thread: level-triggered. It reads from a client only while its queue is writable, and makes
- * responses while it is. The queue is queue_limekeel.c or queue_by_hand.c.
+ * responses while it is. The queue is queue_limekeel.c, queue_budgeted.c or queue_by_hand.c.
  *
- *     epoll_server SECONDS SNDBUF [echo]
+ *     epoll_server SECONDS SNDBUF [echo | ROOM HIGH QUANTUM]
  *
- * It prints its port, and ends at QUIT or after SECONDS. SNDBUF is SO_SNDBUF of its sockets, or 0 for the system's own.
+ * It prints its port, and ends at QUIT or after SECONDS. SNDBUF is SO_SNDBUF of its sockets, or 0 for the system's own. The
+ * last three are those of a budget in bytes. A client whose next response finds no room there waits in a line: nothing more is
+ * made for it or read from it until a round of the loop finds room.
  */
 #define _GNU_SOURCE
 #include <arpa/inet.h>
@@ -31,6 +33,10 @@ struct client {
     bool joined; /* hears what is published */
     bool held;   /* joined, and above its high mark */
     bool waits;  /* publishes, and somebody is held */
+    uint32_t needs; /* the size of the response for which the budget had no room, or 0 */
+    bool in_line;   /* waits for that room, since nothing that it has could be sent before */
+    struct client *before, *behind; /* in that line */
+    unsigned place; /* among all */
     struct client *next;
     struct queue queue;
     struct work work;
@@ -44,6 +50,9 @@ static bool quit, echo;
 
 static struct client **joined, *publisher;
 static unsigned joined_count, held_count;
+
+static struct client **all, *first_in_line, *last_in_line;
+static unsigned all_count, all_room;
 
 static void ask(struct client *client, uint32_t events)
 {
@@ -81,6 +90,51 @@ static void note_held(struct client *client)
     }
 }
 
+static void stand_in_line(struct client *client)
+{
+    if (client->in_line)
+        return;
+    client->in_line = true;
+    client->before = last_in_line;
+    client->behind = NULL;
+    *(last_in_line ? &last_in_line->behind : &first_in_line) = client;
+    last_in_line = client;
+}
+
+static void leave_the_line(struct client *client)
+{
+    if (!client->in_line)
+        return;
+    client->in_line = false;
+    *(client->before ? &client->before->behind : &first_in_line) = client->behind;
+    *(client->behind ? &client->behind->before : &last_in_line) = client->before;
+}
+
+/* Nobody tells a client that there is room again, so each round looks. Who waits longest goes first. */
+static void let_go_on(void)
+{
+    for (uint64_t held = first_in_line ? queue_held() : 0; first_in_line;) {
+        struct client *client = first_in_line;
+        if (!queue_has_room(held, client->needs))
+            return;
+        held += client->needs;
+        leave_the_line(client);
+        go_on_later(client);
+    }
+}
+
+static void add_to_all(struct client *client)
+{
+    if (all_count == all_room) {
+        all_room = all_room ? 2 * all_room : 64;
+        all = realloc(all, all_room * sizeof *all);
+        if (!all)
+            abort();
+    }
+    client->place = all_count;
+    all[all_count++] = client;
+}
+
 static void end(struct client *client)
 {
     if (client->dead)
@@ -91,6 +145,9 @@ static void end(struct client *client)
         if (joined[at] == client)
             joined[at--] = joined[--joined_count];
     client->dead = true;
+    all[client->place] = all[--all_count];
+    all[client->place]->place = client->place;
+    leave_the_line(client);
     note_held(client);
     close(client->socket);
     queue_free(&client->queue);
@@ -119,7 +176,7 @@ static bool publish(struct client *client, struct request request, uint32_t inde
     if (!queue_shared_begin(scratch, request.size))
         return false;
     for (unsigned at = 0; at < joined_count; at++) {
-        if (!queue_shared_write(&joined[at]->queue))
+        if (queue_shared_write(&joined[at]->queue) != WRITTEN)
             joined[at]->queue.broken = true;
         note_held(joined[at]);
         go_on_later(joined[at]);
@@ -129,10 +186,30 @@ static bool publish(struct client *client, struct request request, uint32_t inde
     return true;
 }
 
-static bool respond(struct client *client, uint32_t size)
+/* Writes the response that was made, of this index. What finds no room is work again. */
+static bool respond(struct client *client, uint32_t size, uint32_t index)
 {
-    stats.responses++;
-    if (!queue_write(&client->queue, scratch, size))
+    enum written written = queue_write(&client->queue, scratch, size);
+    client->needs = written == NO_ROOM ? size : 0;
+    if (written == NO_ROOM)
+        work_undo(&client->work, index);
+    else
+        stats.responses++;
+    if (written == NOT_WRITTEN)
+        client->queue.broken = true;
+    return written == WRITTEN;
+}
+
+/* Who asks for the numbers asks for nothing else, and is told past its queue: a budget that is full does not hide them. */
+static bool tell_stats(struct client *client, uint32_t id)
+{
+    stats.stops = queue_stops;
+    stats.held = queue_held();
+    stats.pending = 0;
+    for (unsigned at = 0; at < all_count; at++)
+        stats.pending += queue_pending(&all[at]->queue);
+    uint32_t size = stats_make(scratch, id, &stats);
+    if (send(client->socket, scratch, size, MSG_NOSIGNAL) != (ssize_t)size)
         client->queue.broken = true;
     return !client->queue.broken;
 }
@@ -151,14 +228,12 @@ static bool answer(struct client *client)
     switch (request.op) {
     case OP_GET:
         response_make(scratch, request.id, index, request.size);
-        return respond(client, request.size);
+        return respond(client, request.size, index);
     case OP_RESET:
         stats = (struct stats){.open = stats.open};
         queue_stops = 0;
-        return respond(client, stats_make(scratch, request.id, &stats));
-    case OP_STATS:
-        stats.stops = queue_stops;
-        return respond(client, stats_make(scratch, request.id, &stats));
+        return tell_stats(client, request.id);
+    case OP_STATS: return tell_stats(client, request.id);
     case OP_JOIN: join(client); return true;
     case OP_PUBLISH: return publish(client, request, index);
     default: quit = true; return true;
@@ -167,7 +242,7 @@ static bool answer(struct client *client)
 
 static void answer_all(struct client *client)
 {
-    while (client->queue.writable && answer(client))
+    while (queue_may_write(&client->queue) && answer(client))
         ;
     uint64_t pending = queue_pending(&client->queue);
     if (pending > stats.peak)
@@ -186,11 +261,17 @@ static void serve(struct client *client)
         }
         if (sent == SENT_BLOCKED) {
             answer_all(client); /* what is still writable is made ready meanwhile */
-            ask(client, EPOLLOUT | (client->queue.writable && !work_any(&client->work) ? EPOLLIN : 0u));
+            ask(client, EPOLLOUT | (queue_may_write(&client->queue) && !work_any(&client->work) ? EPOLLIN : 0u));
+            return;
+        }
+        if (sent == SENT_ALL && client->needs) {
+            stand_in_line(client);
+            ask(client, 0);
             return;
         }
         if (sent == SENT_ALL && (!work_any(&client->work) || client->waits)) {
             work_rest(&client->work);
+            queue_rest(&client->queue);
             ask(client, EPOLLIN);
             return;
         }
@@ -206,7 +287,7 @@ static void hear(struct client *client)
     if (count < 0 && (errno == EAGAIN || errno == EINTR))
         return;
     bool heard = count > 0
-                 && (echo ? queue_write(&client->queue, room, (uint32_t)count) : work_feed(&client->work, room, (size_t)count));
+                 && (echo ? queue_write(&client->queue, room, (uint32_t)count) == WRITTEN : work_feed(&client->work, room, (size_t)count));
     if (heard)
         serve(client);
     else
@@ -226,6 +307,7 @@ static void take_in(void)
         client->socket = socket;
         client->asked = EPOLLIN;
         queue_open(&client->queue, LOW, HIGH);
+        add_to_all(client);
         struct epoll_event event = {.events = EPOLLIN, .data.ptr = client};
         epoll_ctl(poller, EPOLL_CTL_ADD, socket, &event);
         stats.open++;
@@ -263,6 +345,7 @@ static void go_on(void)
         }
         client = next;
     }
+    let_go_on();
     while (dead) {
         client = dead;
         dead = client->next;
@@ -287,10 +370,14 @@ static void listen_and_tell(void)
 int main(int count, char **words)
 {
     if (count < 3)
-        return fprintf(stderr, "usage: epoll_server SECONDS SNDBUF [echo]\n"), 2;
+        return fprintf(stderr, "usage: epoll_server SECONDS SNDBUF [echo | ROOM HIGH QUANTUM]\n"), 2;
     alarm((unsigned)atoi(words[1]));
     send_room = atoi(words[2]);
-    echo = count > 3;
+    echo = count == 4;
+    uint64_t budget[] = {256u << 20, 192u << 20, 16384};
+    for (int at = 0; count == 6 && at < 3; at++)
+        budget[at] = strtoull(words[3 + at], NULL, 10);
+    queue_share(budget[0], budget[1], budget[2]);
     pool_make();
     poller = epoll_create1(EPOLL_CLOEXEC);
     listen_and_tell();

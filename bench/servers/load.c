@@ -4,6 +4,7 @@
  *     load PORT PROCESS run  [--seconds T] [--fast N] [--threads N] [--size BYTES] [--depth N] [--stream] [--publish]
  *                            [--echo] [--slow N]
  *     load PORT PROCESS memory CLIENTS
+ *     load PORT PROCESS fill CLIENTS FIRST
  *     load PORT PROCESS quit
  *
  * `run`: the fast clients are spread over threads. Each keeps `depth` requests of one response under way, or with --stream two
@@ -12,6 +13,10 @@
  * 64 KB every half second. It prints one line of JSON.
  *
  * `memory`: what the server holds at so many clients, stage by stage, as one line of JSON.
+ *
+ * `fill`: opens these clients, of which FIRST were opened by others, and says `opened`. After a line of standard input each second
+ * one asks for 256 KB and reads nothing, and the others ask for 64 bytes: once these came it says `full`. After another line all
+ * read what is theirs, and it says `empty`. At the end of standard input it ends.
  */
 #define _GNU_SOURCE
 #include <pthread.h>
@@ -28,6 +33,10 @@
 #define SLOW_CHUNK 65536u
 #define SLOW_REST 500000000u
 #define MOST_THREADS 8
+#define SMALL_ROOM 16384 /* of a client that keeps the system from taking much */
+#define FILLING 16u
+#define FILLING_ROOM 8192
+#define LIFE 900u
 
 /* Some clients, and the thread that drives them. */
 struct group {
@@ -265,7 +274,7 @@ static int memory(unsigned number)
     client_stats(watcher, OP_RESET);
     long none = process_rss(server);
     for (unsigned at = 0; at < number; at++)
-        clients[at] = client_connected(port, 16384, at << 8);
+        clients[at] = client_connected(port, SMALL_ROOM, at << 8);
     while (client_stats(watcher, OP_STATS).open < number + 1)
         usleep(1000);
     long opened = settled();
@@ -280,6 +289,39 @@ static int memory(unsigned number)
     long drained = settled();
     printf("{\"clients\": %u, \"before\": %ld, \"opened\": %ld, \"used\": %ld, \"stuck\": %ld, \"drained\": %ld, \"peak\": %llu}\n", number,
            none, opened, used, stuck, drained, (unsigned long long)stats.peak);
+    return 0;
+}
+
+/* Says how far this is, and waits for a line that has it go on. */
+static bool goes_on_after(const char *stage)
+{
+    char line[64];
+    puts(stage);
+    fflush(stdout);
+    return fgets(line, sizeof line, stdin) != NULL;
+}
+
+static int fill(unsigned number, unsigned first)
+{
+    alarm(LIFE);
+    unsigned half = number / 2;
+    struct client **stuck = calloc(number, sizeof *stuck), **others = stuck + half;
+    for (unsigned at = 0; at < number; at++) {
+        clients_come_from(first + at);
+        stuck[at] = client_connected(port, FILLING_ROOM, (first + at) << 4);
+    }
+    if (!goes_on_after("opened"))
+        return 0;
+    for (unsigned at = 0; at < number - half; at++) {
+        if (at < half)
+            burst(stuck + at, 1, SLOW_SIZE, FILLING);
+        burst(others + at, 1, 64, 1);
+    }
+    drain(others, number - half);
+    if (!goes_on_after("full"))
+        return 0;
+    drain(stuck, half);
+    goes_on_after("empty");
     return 0;
 }
 
@@ -327,9 +369,11 @@ int main(int count, char **words)
             return run();
         if (!strcmp(words[3], "memory") && count == 5)
             return memory((unsigned)atoi(words[4]));
+        if (!strcmp(words[3], "fill") && count == 6)
+            return fill((unsigned)atoi(words[4]), (unsigned)atoi(words[5]));
         if (!strcmp(words[3], "quit"))
             return quit();
     }
-    fprintf(stderr, "usage: load PORT PROCESS run|memory|quit ..: see the head of load.c\n");
+    fprintf(stderr, "usage: load PORT PROCESS run|memory|fill|quit ..: see the head of load.c\n");
     return 2;
 }

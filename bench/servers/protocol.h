@@ -40,9 +40,10 @@ struct head {
     uint32_t id, index, size, magic;
 };
 /* Since RESET: the most bytes pending of one connection, as this server counts them; how often one became unwritable; how
- * many are open; how many responses were made. */
+ * many are open; how many responses were made. And now: the bytes that are pending of all, which the C servers and Netty tell,
+ * and what all hold of a budget. */
 struct stats {
-    uint64_t peak, stops, open, responses, unused[2];
+    uint64_t peak, stops, open, responses, pending, held;
 };
 _Static_assert(HEAD + sizeof(struct stats) == STATS_SIZE, "a response of STATS");
 
@@ -159,5 +160,13 @@ static inline bool work_next(struct work *work, struct request *request, uint32_
         work->from++;
     }
     return true;
+}
+
+/* Puts the response of this index, which was taken off last, back. */
+static inline void work_undo(struct work *work, uint32_t index)
+{
+    if (work->index == 0)
+        work->from--;
+    work->index = index;
 }
 #endif

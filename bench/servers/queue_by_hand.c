@@ -55,17 +55,17 @@ static struct chunk *with_room(struct queue *queue, uint32_t size)
     return chunk;
 }
 
-bool queue_write(struct queue *queue, const uint8_t *bytes, uint32_t size)
+enum written queue_write(struct queue *queue, const uint8_t *bytes, uint32_t size)
 {
     struct chunk *chunk = with_room(queue, size);
     if (!chunk)
-        return false;
+        return NOT_WRITTEN;
     memcpy(chunk->bytes + chunk->used, bytes, size);
     chunk->used += size;
     queue->pending += size;
     if (queue->writable && queue->pending > high_mark)
         queue->writable = false, queue_stops++;
-    return true;
+    return WRITTEN;
 }
 
 /* Each queue has a copy, as of servers that append to a client's buffer. */
@@ -78,7 +78,7 @@ bool queue_shared_begin(const uint8_t *bytes, uint32_t size)
     return true;
 }
 
-bool queue_shared_write(struct queue *queue)
+enum written queue_shared_write(struct queue *queue)
 {
     return queue_write(queue, shared, shared_size);
 }

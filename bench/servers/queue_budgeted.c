@@ -1,0 +1,111 @@
+/*
+ * The queue of a connection by Limekeel, under one budget for all. While pressure stands a client has one response at a time. A
+ * write that finds no room has changed nothing, and epoll_server.c makes it again once there is room.
+ */
+#include "queue_ours.h"
+
+#include <stdio.h>
+#include <stdlib.h>
+
+#define OVERHEAD 96
+
+static struct limekeel_budget budget = LIMEKEEL_BUDGET;
+static uint64_t budget_room;
+bool queue_pressed;
+
+void queue_share(uint64_t room, uint64_t high, uint64_t quantum)
+{
+    budget_room = room;
+    uint32_t status = limekeel_budget_open(&budget, room, high / 2, high, quantum);
+    if (status != LIMEKEEL_OK) {
+        fprintf(stderr, "the budget: %s\n", limekeel_strstatus(status));
+        exit(2);
+    }
+}
+
+/* Each change of pressure is told once, to whichever queue made it. */
+static void note_pressure(uint32_t pressure)
+{
+    if (pressure != LIMEKEEL_PRESSURE_UNCHANGED)
+        queue_pressed = pressure == LIMEKEEL_PRESSURE_BEGAN;
+}
+
+void queue_open(struct queue *queue, uint32_t low, uint32_t high)
+{
+    *queue = (struct queue){.connection = LIMEKEEL_BUDGETED, .writable = true};
+    queue->broken = limekeel_open_within(&queue->connection, low, high, OVERHEAD, 8, &budget) != LIMEKEEL_OK;
+}
+
+void queue_free(struct queue *queue)
+{
+    struct limekeel_pressed_done done;
+    do {
+        done = limekeel_budgeted_free(&queue->connection);
+        note_pressure(done.pressure);
+    } while (done.status == LIMEKEEL_BUSY);
+}
+
+uint64_t queue_held(void)
+{
+    return limekeel_budget_look(&budget).total;
+}
+
+bool queue_has_room(uint64_t held, uint32_t size)
+{
+    return held + size + OVERHEAD <= budget_room;
+}
+
+void queue_rest(struct queue *queue)
+{
+    note_pressure(limekeel_budgeted_rest(&queue->connection).pressure);
+}
+
+static enum written was_written(struct queue *queue, struct limekeel_pressed_written told)
+{
+    note(queue, told.written.change);
+    note_pressure(told.pressure);
+    switch (told.written.status) {
+    case LIMEKEEL_OK: return WRITTEN;
+    case LIMEKEEL_OVER_BUDGET:
+    case LIMEKEEL_BUSY: return NO_ROOM;
+    default: return NOT_WRITTEN;
+    }
+}
+
+enum written queue_write(struct queue *queue, const uint8_t *bytes, uint32_t size)
+{
+    return was_written(queue, limekeel_budgeted_write(&queue->connection, bytes, size));
+}
+
+static struct limekeel_block block = LIMEKEEL_BLOCK;
+
+bool queue_shared_begin(const uint8_t *bytes, uint32_t size)
+{
+    return limekeel_block_new(&block, bytes, size) == LIMEKEEL_OK;
+}
+
+enum written queue_shared_write(struct queue *queue)
+{
+    return was_written(queue, limekeel_budgeted_write_block(&queue->connection, &block));
+}
+
+void queue_shared_end(void)
+{
+    limekeel_block_free(&block);
+}
+
+enum sent queue_send(struct queue *queue, int socket, uint32_t turns)
+{
+    struct limekeel_pressed_flushed flushed = limekeel_budgeted_flush(&queue->connection);
+    note(queue, flushed.flushed.change);
+    note_pressure(flushed.pressure);
+    struct limekeel_pressed_sent told = limekeel_budgeted_send(&queue->connection, socket, turns);
+    note(queue, told.sent.taken.change);
+    note_pressure(told.pressure);
+    return how_it_ended(told.sent);
+}
+
+uint64_t queue_pending(const struct queue *queue)
+{
+    return limekeel_budgeted_look(&queue->connection).total;
+}
