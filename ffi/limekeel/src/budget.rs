@@ -2,16 +2,20 @@
 
 use crate::block::Block;
 use crate::budget_raw::{Budgeted, Handle};
+use crate::calm::{Calm, Waiters};
 use crate::connection::{Estimate, Marks};
+use crate::lends::{Made, Owned};
 use crate::promises::{Cancelled, Node};
 use crate::raw::{Gather, Pieces};
-use crate::replies::{Change, Flushed, Refusal, Removed, Taken, Written, done};
+use crate::replies::{Change, Flushed, Refusal, Refused, Removed, Taken, Written, done};
+use crate::room::Room;
 use crate::send::{Sent, SentTurns, Source, in_turns, once};
 use crate::views::{Current, Look, Promise};
 use crate::waits::lock;
 use limekeel_sys as sys;
 use std::io::{self, IoSlice, Write};
 use std::sync::{Arc, Mutex};
+use std::time::Duration;
 
 /// What a budget is opened with, in bytes: the room, which is never passed, and the two marks of pressure.
 #[derive(Clone, Copy, Debug, PartialEq, Eq)]
@@ -101,6 +105,7 @@ impl BudgetLook {
 #[derive(Clone, Debug)]
 pub struct Budget {
     handle: Arc<Mutex<Handle>>,
+    waiters: Arc<Waiters>,
 }
 
 impl Budget {
@@ -109,12 +114,12 @@ impl Budget {
     ///
     /// [`Refusal::BadBounds`] comes if the low mark is above the high mark, or the room above 2^62 - 1.
     pub fn open(bounds: Bounds, quantum: u64) -> Result<Budget, Refusal> {
-        Ok(Budget::of(Handle::open(bounds, quantum)?))
+        Ok(Budget::of(Handle::open(bounds, quantum)?, Arc::default()))
     }
 
     /// Another handle of the same budget, for another thread, with no mutex in common. It allocates.
     pub fn share(&self) -> Result<Budget, Refusal> {
-        Ok(Budget::of(lock(&self.handle).share()?))
+        Ok(Budget::of(lock(&self.handle).share()?, Arc::clone(&self.waiters)))
     }
 
     /// The bytes that all connections hold, and whether pressure stands.
@@ -129,8 +134,46 @@ impl Budget {
         self.look().is_pressed
     }
 
-    fn of(handle: Handle) -> Budget {
-        Budget { handle: Arc::new(Mutex::new(handle)) }
+    /// Sleeps until no pressure stands, if it does: as a thread does that accepts clients. Whatever call ends pressure wakes it, of
+    /// whatever connection on whatever thread.
+    ///
+    /// A write can be [`Refusal::OverBudget`] while no pressure stands, if its message is larger than what is left of the room.
+    ///
+    /// ```
+    /// use limekeel::{Bounds, Budget, BudgetedConnection, Estimate, Marks};
+    /// use std::thread;
+    ///
+    /// let budget = Budget::open(Bounds { room: 1000, low: 200, high: 800 }, 0)?;
+    /// let mut slow = BudgetedConnection::within(&budget, Marks::default(), Estimate::default())?;
+    /// let _ = slow.write(&[0; 804]).answer?; // 900: pressure began
+    /// let other = budget.share()?;
+    /// let accepts = thread::spawn(move || other.wait_while_pressed());
+    /// let _ = slow.give_up(7).answer?; // ends it, and wakes
+    /// accepts.join().expect("it goes on");
+    /// # Ok::<(), limekeel::Refusal>(())
+    /// ```
+    pub fn wait_while_pressed(&self) {
+        self.waiters.wait(None, || self.is_pressed());
+    }
+
+    /// The same, but no longer than `limit`: then it answers false.
+    #[must_use = "pressure may still stand"]
+    pub fn wait_while_pressed_within(&self, limit: Duration) -> bool {
+        self.waiters.wait(Some(limit), || self.is_pressed())
+    }
+
+    /// The same for a task, of whatever executor: a future that is ready once no pressure stands. Await it before each read, and
+    /// before each accept.
+    pub fn calm(&self) -> Calm {
+        Calm::new(self.clone())
+    }
+
+    pub(crate) fn waiters(&self) -> &Waiters {
+        &self.waiters
+    }
+
+    fn of(handle: Handle, waiters: Arc<Waiters>) -> Budget {
+        Budget { handle: Arc::new(Mutex::new(handle)), waiters }
     }
 }
 
@@ -140,25 +183,29 @@ impl Budget {
 /// [`Refusal::OverBudget`], after [`Refusal::Closed`] and [`Refusal::Oversize`] and before anything is allocated; it is
 /// [`Refusal::Busy`] if other threads came in between 65536 times. What is spare above two quanta goes back by itself.
 ///
-/// One that is dropped gives back all that it holds, and if that ends pressure nobody is told: [`BudgetedConnection::retire`] it
-/// where tasks wait for that.
+/// Each call that ends pressure wakes who waits for that ([`Budget::wait_while_pressed`], [`Budget::calm`]).
+///
+/// One that is dropped gives back all that it holds. If that ends pressure who waits is woken, but nobody is told:
+/// [`BudgetedConnection::retire`] tells it.
 #[derive(Debug)]
 pub struct BudgetedConnection {
     handle: Budgeted,
     cancelled: Cancelled,
+    waiters: Arc<Waiters>,
 }
 
 impl BudgetedConnection {
     /// A connection with nothing written, within this budget. It holds nothing before its first write.
     pub fn within(budget: &Budget, marks: Marks, estimate: Estimate) -> Result<BudgetedConnection, Refusal> {
         let handle = Budgeted::open(&mut lock(&budget.handle), marks, estimate)?;
-        Ok(BudgetedConnection { handle, cancelled: Cancelled::default() })
+        Ok(BudgetedConnection { handle, cancelled: Cancelled::default(), waiters: Arc::clone(&budget.waiters) })
     }
 
     /// Gives back all that it holds above what is pending: for a connection that is idle, as before its task waits.
     #[must_use = "nothing tells the change of pressure again"]
     pub fn rest(&mut self) -> Option<Pressure> {
-        Pressure::of(self.handle.rest().pressure)
+        let told = self.handle.rest();
+        self.waiters.turned(told.pressure)
     }
 
     /// Lets it go with all that waits in it, and gives back all that it holds. Promises that wait are not reported: give it up
@@ -166,7 +213,8 @@ impl BudgetedConnection {
     #[must_use = "nothing tells the change of pressure again"]
     pub fn retire(mut self) -> Option<Pressure> {
         // if others came in between, the drop tries again
-        Pressure::of(self.handle.free().pressure)
+        let told = self.handle.free();
+        self.waiters.turned(told.pressure)
     }
 
     /// The bytes that all connections of its budget hold, and whether pressure stands, read in one load with no lock.
@@ -184,33 +232,65 @@ impl BudgetedConnection {
     /// Writes a copy of these bytes.
     #[inline]
     pub fn write(&mut self, bytes: &[u8]) -> Pressed<Result<Written, Refusal>> {
-        written(self.handle.write(bytes))
+        let told = self.handle.write(bytes);
+        self.waiters.written(told)
     }
 
     /// Writes the bytes of a block, which the message then shares: nothing is copied.
     pub fn write_block(&mut self, block: &Block) -> Pressed<Result<Written, Refusal>> {
-        written(self.handle.write_block(&block.slot))
+        let told = self.handle.write_block(&block.slot);
+        self.waiters.written(told)
     }
 
     /// Writes bytes that are there for good: nothing is copied.
     pub fn write_static(&mut self, bytes: &'static [u8]) -> Pressed<Result<Written, Refusal>> {
-        written(self.handle.write_static(bytes))
+        let told = self.handle.write_static(bytes);
+        self.waiters.written(told)
+    }
+
+    /// Writes the bytes of `owner` where they lie, as [`crate::Connection::write_owned`]: nothing is copied.
+    pub fn write_owned<T: AsRef<[u8]> + Send + 'static>(&mut self, owner: T) -> Pressed<Result<Written, Refused<T>>> {
+        let Owned { answer, pressure } = self.handle.lends().write_owned(owner);
+        let answer = answer.map(Written::accepted).map_err(|(refusal, owner)| Refused { refusal, owner });
+        Pressed { answer, pressure: self.waiters.turned(pressure) }
+    }
+
+    /// Room for one message of at most `most` bytes, to make it in place, as [`crate::Connection::reserve`]. The budget is asked
+    /// when the message is written.
+    ///
+    /// ```
+    /// use limekeel::{Bounds, Budget, BudgetedConnection, Estimate, Marks};
+    /// use std::io::Write;
+    ///
+    /// let budget = Budget::open(Bounds { room: 1000, low: 200, high: 800 }, 0)?;
+    /// let mut connection = BudgetedConnection::within(&budget, Marks::default(), Estimate::default())?;
+    /// let mut room = connection.reserve(100)?;
+    /// write!(room, "{}-{}", 7, 9).expect("it has room");
+    /// let told = room.write_message();
+    /// assert_eq!((told.answer?.id, told.pressure, budget.look().total), (0, None, 3 + 96));
+    /// # Ok::<(), limekeel::Refusal>(())
+    /// ```
+    pub fn reserve(&mut self, most: usize) -> Result<Room<'_, Pressed<Result<Written, Refusal>>>, Refusal> {
+        let made = Made::new(self.handle.lends(), most)?;
+        Ok(Room::new(made, Some(&self.waiters)))
     }
 
     /// Writes a region: `length` bytes of something that the caller sends, as of a file.
     pub fn write_region(&mut self, length: u64) -> Pressed<Result<Written, Refusal>> {
-        written(self.handle.write_region(length))
+        let told = self.handle.write_region(length);
+        self.waiters.written(told)
     }
 
     /// Writes any other message, by a number that means something to the caller alone.
     pub fn write_other(&mut self, value: u32) -> Pressed<Result<Written, Refusal>> {
-        written(self.handle.write_other(value))
+        let told = self.handle.write_other(value);
+        self.waiters.written(told)
     }
 
     /// As [`crate::Connection::flush`].
     pub fn flush(&mut self) -> Pressed<Result<Flushed, Refusal>> {
         let told = self.handle.flush();
-        Pressed { answer: Flushed::of(told.flushed), pressure: Pressure::of(told.pressure) }
+        Pressed { answer: Flushed::of(told.flushed), pressure: self.waiters.turned(told.pressure) }
     }
 
     /// As [`crate::Connection::remove`].
@@ -234,7 +314,7 @@ impl BudgetedConnection {
     /// As [`crate::Connection::progress`].
     pub fn progress(&mut self, n: u64) -> Pressed<Result<(), Refusal>> {
         let told = self.handle.progress(n);
-        Pressed { answer: done(told.status), pressure: Pressure::of(told.pressure) }
+        Pressed { answer: done(told.status), pressure: self.waiters.turned(told.pressure) }
     }
 
     /// As [`crate::Connection::cancel`].
@@ -250,7 +330,7 @@ impl BudgetedConnection {
             self.cancelled.insert(node);
         }
         let answer = done(told.cancelled.status).map(|()| told.cancelled.in_time);
-        Pressed { answer, pressure: Pressure::of(told.pressure) }
+        Pressed { answer, pressure: self.waiters.turned(told.pressure) }
     }
 
     /// As [`crate::Connection::fail_flushed`].
@@ -275,13 +355,13 @@ impl BudgetedConnection {
     pub fn user_bit(&mut self, index: u32, writable: bool) -> Pressed<Result<Option<Change>, Refusal>> {
         let told = self.handle.user_bit(index, writable);
         let answer = done(told.changed.status).map(|()| Change::of(told.changed.change));
-        Pressed { answer, pressure: Pressure::of(told.pressure) }
+        Pressed { answer, pressure: self.waiters.turned(told.pressure) }
     }
 
     /// As [`crate::Connection::set_marks`].
     pub fn set_marks(&mut self, marks: Marks) -> Pressed<Result<(), Refusal>> {
         let told = self.handle.set_marks(marks.low, marks.high);
-        Pressed { answer: done(told.status), pressure: Pressure::of(told.pressure) }
+        Pressed { answer: done(told.status), pressure: self.waiters.turned(told.pressure) }
     }
 
     /// As [`crate::Connection::send_to`].
@@ -357,18 +437,37 @@ impl BudgetedConnection {
         if let Ok(removed) = &answer {
             self.cancelled.removed(removed);
         }
-        Pressed { answer, pressure: Pressure::of(told.pressure) }
+        Pressed { answer, pressure: self.waiters.turned(told.pressure) }
     }
 
     fn taken(&mut self, told: sys::PressedTaken) -> Pressed<Result<Taken, Refusal>> {
         let answer = Taken::of(told.taken).map(|taken| self.cancelled.settled_by(taken));
-        Pressed { answer, pressure: Pressure::of(told.pressure) }
+        Pressed { answer, pressure: self.waiters.turned(told.pressure) }
     }
 }
 
-#[inline]
-fn written(told: sys::PressedWritten) -> Pressed<Result<Written, Refusal>> {
-    Pressed { answer: Written::of(told.written), pressure: Pressure::of(told.pressure) }
+impl Drop for BudgetedConnection {
+    fn drop(&mut self) {
+        let number = self.handle.frees();
+        self.waiters.turned(number);
+    }
+}
+
+impl Waiters {
+    /// How a call changed pressure. Who waits for its end is woken.
+    #[inline]
+    pub(crate) fn turned(&self, number: u32) -> Option<Pressure> {
+        let turn = Pressure::of(number);
+        if turn == Some(Pressure::Ended) {
+            self.ring();
+        }
+        turn
+    }
+
+    #[inline]
+    pub(crate) fn written(&self, told: sys::PressedWritten) -> Pressed<Result<Written, Refusal>> {
+        Pressed { answer: Written::of(told.written), pressure: self.turned(told.pressure) }
+    }
 }
 
 /// A connection that a budget covers while it sends.
@@ -393,7 +492,7 @@ impl Source for Sending<'_> {
 
     fn take(&mut self, bytes: u64) -> Result<Taken, Refusal> {
         let told = self.budgeted.handle.take_sent(bytes);
-        self.pressure = Pressure::of(told.pressure).or(self.pressure);
+        self.pressure = self.budgeted.waiters.turned(told.pressure).or(self.pressure);
         Taken::of(told.taken)
     }
 

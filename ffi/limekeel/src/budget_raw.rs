@@ -1,12 +1,14 @@
 //! The `unsafe` of a budget and of a connection that it covers. Each call here is as safe as its signature, for the reasons in
-//! `raw.rs`. A connection is lent nothing but bytes that are there for good.
+//! `raw.rs`.
 
 use limekeel_sys as sys;
 use std::ptr::null_mut;
 
 use crate::budget::Bounds;
 use crate::connection::{Estimate, Marks};
-use crate::raw::{Gather, Place, Slot, commands, looks};
+use crate::lends::{Archived, Lends};
+use crate::lent::Lent;
+use crate::raw::{Gather, Place, Slot, commands, front_removals, looks, removals};
 use crate::replies::{Refusal, done};
 use crate::views::Front;
 
@@ -52,14 +54,29 @@ impl Drop for Handle {
 #[derive(Debug)]
 pub(crate) struct Budgeted {
     inner: sys::Budgeted,
+    lent: Lent,
 }
 
 // SAFETY: as of a `Handle`.
 unsafe impl Send for Budgeted {}
 
+fn taken(told: &sys::PressedTaken) -> &sys::Taken {
+    &told.taken
+}
+
+fn is_any(told: &sys::PressedRemoved) -> bool {
+    told.removed.any
+}
+
 impl Budgeted {
+    /// What bytes can be lent to.
+    #[inline]
+    pub(crate) fn lends(&mut self) -> Lends<'_> {
+        Lends { archived: Archived::Budgeted(&mut self.inner), lent: &mut self.lent }
+    }
+
     pub(crate) fn open(budget: &mut Handle, marks: Marks, estimate: Estimate) -> Result<Budgeted, Refusal> {
-        let mut opened = Budgeted { inner: sys::Budgeted { at: null_mut() } };
+        let mut opened = Budgeted { inner: sys::Budgeted { at: null_mut() }, lent: Lent::default() };
         let (Marks { low, high }, Estimate { overhead, unknown }) = (marks, estimate);
         let (at, budget) = (&mut opened.inner, &mut budget.inner);
         // SAFETY: both handles are their values' own, and this one owns nothing yet.
@@ -78,12 +95,18 @@ impl Budgeted {
         cancel(id: u64) -> sys::PressedCancelled = limekeel_budgeted_cancel;
         user_bit(index: u32, writable: bool) -> sys::PressedChanged = limekeel_budgeted_user_bit;
         set_marks(low: u32, high: u32) -> sys::PressedDone = limekeel_budgeted_set_marks;
-        remove() -> sys::PressedRemoved = limekeel_budgeted_remove;
-        remove_with(cause: u32) -> sys::PressedRemoved = limekeel_budgeted_remove_with;
-        take_sent(n: u64) -> sys::PressedTaken = limekeel_budgeted_take_sent;
-        fail_flushed(cause: u32, notify: bool) -> sys::PressedTaken = limekeel_budgeted_fail_flushed;
-        close(cause: u32) -> sys::PressedTaken = limekeel_budgeted_close;
-        give_up(cause: u32) -> sys::PressedTaken = limekeel_budgeted_give_up;
+    }
+
+    removals! { sys::PressedTaken, taken;
+        take_sent(n: u64) = limekeel_budgeted_take_sent;
+        fail_flushed(cause: u32, notify: bool) = limekeel_budgeted_fail_flushed;
+        close(cause: u32) = limekeel_budgeted_close;
+        give_up(cause: u32) = limekeel_budgeted_give_up;
+    }
+
+    front_removals! { sys::PressedRemoved, is_any;
+        remove() = limekeel_budgeted_remove;
+        remove_with(cause: u32) = limekeel_budgeted_remove_with;
     }
 
     looks! {
@@ -128,12 +151,21 @@ unsafe impl Gather for Budgeted {
 /// How often what is freed tries again, if other threads come in between 65536 times.
 const TRIES: usize = 1024;
 
-impl Drop for Budgeted {
-    fn drop(&mut self) {
+impl Budgeted {
+    /// Frees it, and tells how that changed pressure. If it is freed already nothing changes.
+    pub(crate) fn frees(&mut self) -> u32 {
         for _ in 0..TRIES {
-            if self.free().status != sys::BUSY {
-                return;
+            let told = self.free();
+            if told.status != sys::BUSY {
+                return told.pressure;
             }
         }
+        sys::PRESSURE_UNCHANGED
+    }
+}
+
+impl Drop for Budgeted {
+    fn drop(&mut self) {
+        self.frees();
     }
 }

@@ -127,7 +127,7 @@ impl Connection {
     /// # Ok::<(), limekeel::Refusal>(())
     /// ```
     pub fn reserve(&mut self, most: usize) -> Result<Room<'_>, Refusal> {
-        Ok(Room { made: self.handle.reserve(most)? })
+        Ok(Room::new(self.handle.reserve(most)?, None))
     }
 
     /// Writes a region: `length` bytes of something that the caller sends, as of a file.

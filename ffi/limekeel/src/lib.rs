@@ -84,6 +84,7 @@
 
 mod block;
 mod budget;
+mod calm;
 mod common;
 mod connection;
 mod managed;
@@ -101,6 +102,8 @@ mod budget_raw;
 #[allow(unsafe_code)]
 mod handles;
 #[allow(unsafe_code)]
+mod lends;
+#[allow(unsafe_code)]
 mod lent;
 #[allow(unsafe_code)]
 mod managed_raw;
@@ -109,6 +112,7 @@ mod raw;
 
 pub use block::Block;
 pub use budget::{Bounds, Budget, BudgetLook, BudgetedConnection, Pressed, Pressure};
+pub use calm::Calm;
 pub use connection::{Connection, Estimate, Marks};
 pub use managed::{Count, Limits, ManagedConnection, Numbers, Refusals, Told};
 pub use raw::Pieces;

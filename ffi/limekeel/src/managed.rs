@@ -2,10 +2,12 @@
 
 use crate::block::Block;
 use crate::connection::{Estimate, Marks};
+use crate::lends::Made;
 use crate::managed_raw::Managed;
 use crate::promises::{Cancelled, Node};
 use crate::raw::{Gather, Pieces};
-use crate::replies::{Change, Flushed, Refusal, Removed, Taken, Written, done};
+use crate::replies::{Change, Flushed, Refusal, Refused, Removed, Taken, Written, done};
+use crate::room::Room;
 use crate::send::{Sent, SentTurns, Source, in_turns, once};
 use crate::views::{Current, Look, Promise};
 use limekeel_sys as sys;
@@ -183,6 +185,19 @@ impl ManagedConnection {
     /// Writes bytes that are there for good: nothing is copied. It is refused as [`Self::write`] is.
     pub fn write_static(&mut self, bytes: &'static [u8]) -> Result<Written, Refusal> {
         Written::of(self.handle.write_static(bytes))
+    }
+
+    /// Writes the bytes of `owner` where they lie, as [`crate::Connection::write_owned`]: nothing is copied. It is refused as
+    /// [`Self::write`] is.
+    pub fn write_owned<T: AsRef<[u8]> + Send + 'static>(&mut self, owner: T) -> Result<Written, Refused<T>> {
+        let answer = self.handle.lends().write_owned(owner).answer;
+        answer.map(Written::accepted).map_err(|(refusal, owner)| Refused { refusal, owner })
+    }
+
+    /// Room for one message of at most `most` bytes, to make it in place, as [`crate::Connection::reserve`]. The limit is asked when
+    /// the message is written.
+    pub fn reserve(&mut self, most: usize) -> Result<Room<'_>, Refusal> {
+        Ok(Room::new(Made::new(self.handle.lends(), most)?, None))
     }
 
     /// Writes a region: `length` bytes of something that the caller sends, as of a file.

@@ -1,12 +1,13 @@
-//! The `unsafe` of a managed connection. Each call here is as safe as its signature, for the reasons in `raw.rs`. It is lent
-//! nothing but bytes that are there for good.
+//! The `unsafe` of a managed connection. Each call here is as safe as its signature, for the reasons in `raw.rs`.
 
 use limekeel_sys as sys;
 use std::ptr::null_mut;
 
 use crate::connection::{Estimate, Marks};
+use crate::lends::{Archived, Lends};
+use crate::lent::Lent;
 use crate::managed::Limits;
-use crate::raw::{Gather, Place, Slot, commands, looks};
+use crate::raw::{Gather, Place, Slot, commands, front_removals, looks, removals};
 use crate::replies::{Refusal, done};
 use crate::views::Front;
 
@@ -14,15 +15,30 @@ use crate::views::Front;
 #[derive(Debug)]
 pub(crate) struct Managed {
     inner: sys::Managed,
+    lent: Lent,
 }
 
 // SAFETY: the archive proves `Send` of what is behind the pointer, and nothing of it is tied to a thread. The pointer keeps
 // `Managed` from being `Sync`.
 unsafe impl Send for Managed {}
 
+fn taken(told: &sys::ToldTaken) -> &sys::Taken {
+    &told.taken
+}
+
+fn is_any(told: &sys::ToldRemoved) -> bool {
+    told.removed.any
+}
+
 impl Managed {
+    /// What bytes can be lent to.
+    #[inline]
+    pub(crate) fn lends(&mut self) -> Lends<'_> {
+        Lends { archived: Archived::Managed(&mut self.inner), lent: &mut self.lent }
+    }
+
     pub(crate) fn open(marks: Marks, estimate: Estimate, limits: Limits, now: u64) -> Result<Managed, Refusal> {
-        let mut opened = Managed { inner: sys::Managed { at: null_mut() } };
+        let mut opened = Managed { inner: sys::Managed { at: null_mut() }, lent: Lent::default() };
         let (Marks { low, high }, Estimate { overhead, unknown }) = (marks, estimate);
         let Limits { most_pending, window, least_bytes } = limits;
         let at = &mut opened.inner;
@@ -56,12 +72,18 @@ impl Managed {
         cancel(id: u64) -> sys::ToldCancelled = limekeel_managed_cancel;
         user_bit(index: u32, writable: bool) -> sys::ToldChanged = limekeel_managed_user_bit;
         set_marks(low: u32, high: u32) -> sys::ToldDone = limekeel_managed_set_marks;
-        remove() -> sys::ToldRemoved = limekeel_managed_remove;
-        remove_with(cause: u32) -> sys::ToldRemoved = limekeel_managed_remove_with;
-        take_sent(n: u64) -> sys::ToldTaken = limekeel_managed_take_sent;
-        fail_flushed(cause: u32, notify: bool) -> sys::ToldTaken = limekeel_managed_fail_flushed;
-        close(cause: u32) -> sys::ToldTaken = limekeel_managed_close;
-        give_up(cause: u32) -> sys::ToldTaken = limekeel_managed_give_up;
+    }
+
+    removals! { sys::ToldTaken, taken;
+        take_sent(n: u64) = limekeel_managed_take_sent;
+        fail_flushed(cause: u32, notify: bool) = limekeel_managed_fail_flushed;
+        close(cause: u32) = limekeel_managed_close;
+        give_up(cause: u32) = limekeel_managed_give_up;
+    }
+
+    front_removals! { sys::ToldRemoved, is_any;
+        remove() = limekeel_managed_remove;
+        remove_with(cause: u32) = limekeel_managed_remove_with;
     }
 
     looks! {

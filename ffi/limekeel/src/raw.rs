@@ -1,4 +1,5 @@
-//! The `unsafe` of this crate, but that of `lent.rs`, `handles.rs`, `managed_raw.rs`, `budget_raw.rs` and `common.rs`. Each call here is as safe as its signature.
+//! The `unsafe` of this crate, but that of `lends.rs`, `lent.rs`, `handles.rs`, `managed_raw.rs`, `budget_raw.rs` and `common.rs`.
+//! Each call here is as safe as its signature.
 //!
 //! What the archive asks of a caller, and why it is so here:
 //!
@@ -7,13 +8,12 @@
 //! - One call at a time uses it: a command takes `&mut`, and a look takes `&` of a type that is not `Sync`. A look writes
 //!   neither the handle nor what is behind it, and so the archive takes it as const.
 //! - Slices are not null: those of Rust never are.
-//! - Memory that is lent stays as it is until the archive told the message as gone: `Handle` keeps its owner, and lets it go
-//!   as it is told (`lent.rs`).
+//! - Memory that is lent stays as it is until the archive told the message as gone: a handle keeps its owner, and lets it go
+//!   as it is told (`lends.rs`, `lent.rs`).
 //! - What a `Piece` points to is read while the connection is as it was: a `Pieces` borrows it. It may be read in one thread
 //!   while another looks at the connection, since a look writes nothing.
 
 use limekeel_sys as sys;
-use std::any::Any;
 use std::fmt::{self, Debug, Formatter};
 use std::io::IoSlice;
 use std::marker::PhantomData;
@@ -22,7 +22,8 @@ use std::ops::Deref;
 use std::ptr::{null, null_mut};
 use std::slice;
 
-use crate::lent::{Kept, Lent, Owner};
+use crate::lends::{Archived, Lends, Made};
+use crate::lent::Lent;
 use crate::replies::{Refusal, done};
 use crate::views::Front;
 
@@ -52,23 +53,46 @@ macro_rules! commands {
 
 pub(crate) use commands;
 
-/// The same of those that tell which messages are gone: what these were lent is let go.
+/// The same of those that tell which messages are gone: what these were lent is let go. `$taken` is where the answer tells it.
 macro_rules! removals {
-    ($($name:ident($($argument:ident: $kind:ty),*) = $export:ident;)*) => {
+    ($answer:ty, $taken:ident; $($name:ident($($argument:ident: $kind:ty),*) = $export:ident;)*) => {
         $(
             #[inline]
-            pub(crate) fn $name(&mut self $(, $argument: $kind)*) -> sys::Taken {
+            pub(crate) fn $name(&mut self $(, $argument: $kind)*) -> $answer {
                 // SAFETY: as of a command.
                 let told = unsafe { sys::$export(&mut self.inner $(, $argument)*) };
                 if !self.lent.is_empty() {
                     // if it was refused this is 0
-                    self.lent.let_go_below(told.to);
+                    self.lent.let_go_below($taken(&told).to);
                 }
                 told
             }
         )*
     };
 }
+
+pub(crate) use removals;
+
+/// The same of the two that take the front away.
+macro_rules! front_removals {
+    ($answer:ty, $any:ident; $($name:ident($($argument:ident: $kind:ty),*) = $export:ident;)*) => {
+        $(
+            #[inline]
+            pub(crate) fn $name(&mut self $(, $argument: $kind)*) -> $answer {
+                // a removal does not report the promise of a cancelled message
+                let front = if self.lent.is_empty() { None } else { Some(self.front().id) };
+                // SAFETY: as of a command.
+                let told = unsafe { sys::$export(&mut self.inner $(, $argument)*) };
+                if let Some(id) = front.filter(|_| $any(&told)) {
+                    self.lent.let_go_below(id + 1);
+                }
+                told
+            }
+        )*
+    };
+}
+
+pub(crate) use front_removals;
 
 /// The same with the handle of a `&`.
 macro_rules! looks {
@@ -124,6 +148,14 @@ unsafe impl Gather for Handle {
     }
 }
 
+fn itself(told: &sys::Taken) -> &sys::Taken {
+    told
+}
+
+fn is_any(told: &sys::Removed) -> bool {
+    told.any
+}
+
 impl Handle {
     pub(crate) fn none() -> Handle {
         Handle { inner: sys::Connection { at: null_mut() }, lent: Lent::default() }
@@ -152,42 +184,16 @@ impl Handle {
         unsafe { sys::limekeel_shrink_to_fit(&mut self.inner) };
     }
 
-    removals! {
+    removals! { sys::Taken, itself;
         take_sent(n: u64) = limekeel_take_sent;
         fail_flushed(cause: u32, notify: bool) = limekeel_fail_flushed;
         close(cause: u32) = limekeel_close;
         give_up(cause: u32) = limekeel_give_up;
     }
 
-    #[inline]
-    pub(crate) fn remove(&mut self) -> sys::Removed {
-        let front = self.lent_front();
-        // SAFETY: as of a command.
-        let told = unsafe { sys::limekeel_remove(&mut self.inner) };
-        self.let_go_with(front, told.any);
-        told
-    }
-
-    #[inline]
-    pub(crate) fn remove_with(&mut self, cause: u32) -> sys::Removed {
-        let front = self.lent_front();
-        // SAFETY: as of a command.
-        let told = unsafe { sys::limekeel_remove_with(&mut self.inner, cause) };
-        self.let_go_with(front, told.any);
-        told
-    }
-
-    /// The promise that goes next, if something is lent: a removal does not report that of a cancelled message.
-    #[inline]
-    fn lent_front(&self) -> Option<u64> {
-        if self.lent.is_empty() { None } else { Some(self.front().id) }
-    }
-
-    #[inline]
-    fn let_go_with(&mut self, front: Option<u64>, any: bool) {
-        if let Some(id) = front.filter(|_| any) {
-            self.lent.let_go_below(id + 1);
-        }
+    front_removals! { sys::Removed, is_any;
+        remove() = limekeel_remove;
+        remove_with(cause: u32) = limekeel_remove_with;
     }
 
     looks! {
@@ -221,55 +227,17 @@ impl Handle {
         &mut self,
         owner: T,
     ) -> Result<sys::Written, (Refusal, T)> {
-        if let Err(refusal) = self.lent.make_room() {
-            return Err((refusal, owner));
-        }
-        let mut owner = Some(owner);
-        // most often it is a list, which needs no memory besides
-        if let Some(list) = (&mut owner as &mut dyn Any).downcast_mut::<Option<Vec<u8>>>() {
-            let answer = list.take().map(|owned| self.write_list(owned));
-            return match answer {
-                Some(Err((refusal, owned))) => {
-                    *list = Some(owned);
-                    Err((refusal, owner.expect("it was put back")))
-                }
-                Some(Ok(told)) => Ok(told),
-                None => unreachable!("it was there"),
-            };
-        }
-        let owner = Owner::new(owner.expect("it is there")).map_err(|owner| (Refusal::NoMemory, owner))?;
-        let bytes = owner.bytes();
-        // SAFETY: the handle is this value's own; the pointer and the length are those of one slice. Its owner is kept under the
-        // promise of the message; what is kept is let go if the archive told the message as gone, and behind the archive at the end.
-        let told = unsafe { sys::limekeel_write_lent_bytes(&mut self.inner, bytes.as_ptr(), bytes.len()) };
-        match done(told.status) {
-            Ok(()) => {
-                self.lent.keep(told.id, owner.of_any_type());
-                Ok(told)
-            }
-            Err(refusal) => Err((refusal, owner.into_inner())),
-        }
-    }
-
-    /// The same of a list, for which there is room among what is kept.
-    #[inline]
-    fn write_list(&mut self, list: Vec<u8>) -> Result<sys::Written, (Refusal, Vec<u8>)> {
-        // SAFETY: as of any owner. The bytes of a list stay where they are if it is moved.
-        let told = unsafe { sys::limekeel_write_lent_bytes(&mut self.inner, list.as_ptr(), list.len()) };
-        match done(told.status) {
-            Ok(()) => {
-                self.lent.keep(told.id, Kept::List(list));
-                Ok(told)
-            }
-            Err(refusal) => Err((refusal, list)),
-        }
+        self.lends().write_owned(owner).answer
     }
 
     /// Memory in which a message of at most so many bytes is made.
     pub(crate) fn reserve(&mut self, most: usize) -> Result<Made<'_>, Refusal> {
-        self.lent.reserve(most)?;
-        let start = self.lent.made();
-        Ok(Made { handle: self, start, most })
+        Made::new(self.lends(), most)
+    }
+
+    #[inline]
+    fn lends(&mut self) -> Lends<'_> {
+        Lends { archived: Archived::Connection(&mut self.inner), lent: &mut self.lent }
     }
 
     pub(crate) fn write_parts(&mut self, parts: &[IoSlice<'_>]) -> sys::Written {
@@ -283,52 +251,6 @@ impl Handle {
         // SAFETY: both handles are their values' own, and two values; neither type is `Sync`, so that no other call uses
         // one of them meanwhile.
         unsafe { sys::limekeel_write_block(&mut self.inner, &block.inner) }
-    }
-}
-
-/// A message that is being made, in memory of the connection's. Without [`Made::write`] it comes to nothing.
-#[derive(Debug)]
-pub(crate) struct Made<'a> {
-    handle: &'a mut Handle,
-    /// Where its bytes begin in the chunk, in which each byte before is of a message.
-    start: usize,
-    most: usize,
-}
-
-impl Made<'_> {
-    /// How many bytes it may still have.
-    pub(crate) fn left(&self) -> usize {
-        self.most - self.bytes().len()
-    }
-
-    pub(crate) fn bytes(&self) -> &[u8] {
-        self.handle.lent.made_from(self.start)
-    }
-
-    /// Adds as many of these bytes as it may still have, and returns how many.
-    pub(crate) fn add(&mut self, bytes: &[u8]) -> usize {
-        let count = bytes.len().min(self.left());
-        self.handle.lent.add(&bytes[..count])
-    }
-
-    /// Writes it.
-    pub(crate) fn write(mut self) -> sys::Written {
-        let bytes = self.handle.lent.made_from(self.start);
-        let (at, length) = (bytes.as_ptr(), bytes.len());
-        // SAFETY: the handle is this value's own; the pointer and the length are those of one slice. The chunk is kept with the
-        // promise of the last message in it, and nobody changes these bytes: others are added behind them.
-        let told = unsafe { sys::limekeel_write_lent_bytes(&mut self.handle.inner, at, length) };
-        if told.status == sys::OK {
-            self.handle.lent.keep_made(told.id);
-            self.start += length;
-        }
-        told
-    }
-}
-
-impl Drop for Made<'_> {
-    fn drop(&mut self) {
-        self.handle.lent.take_back(self.start);
     }
 }
 

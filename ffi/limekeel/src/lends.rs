@@ -1,0 +1,160 @@
+//! The `unsafe` of what is lent to a connection of each kind. Each call here is as safe as its signature, for the reasons in `raw.rs`.
+
+use limekeel_sys as sys;
+use std::any::Any;
+
+use crate::lent::{Kept, Lent, Owner};
+use crate::replies::{Refusal, done};
+
+/// The handle of a connection of the archive's that bytes are lent to.
+#[derive(Debug)]
+pub(crate) enum Archived<'a> {
+    Connection(&'a mut sys::Connection),
+    Managed(&'a mut sys::Managed),
+    Budgeted(&'a mut sys::Budgeted),
+}
+
+impl Archived<'_> {
+    /// Writes bytes where they lie.
+    ///
+    /// # Safety
+    ///
+    /// They stay there as they are until the archive told the message as gone, or freed the connection.
+    #[inline(always)]
+    unsafe fn write(&mut self, at: *const u8, length: usize) -> sys::PressedWritten {
+        let unpressed = |written| sys::PressedWritten { written, pressure: sys::PRESSURE_UNCHANGED };
+        // SAFETY: `&mut` says that no other call uses the handle; the caller says the rest.
+        unsafe {
+            match self {
+                Archived::Connection(handle) => unpressed(sys::limekeel_write_lent_bytes(*handle, at, length)),
+                Archived::Managed(handle) => unpressed(sys::limekeel_managed_write_lent_bytes(*handle, at, length)),
+                Archived::Budgeted(handle) => sys::limekeel_budgeted_write_lent_bytes(*handle, at, length),
+            }
+        }
+    }
+}
+
+/// A connection, and what its messages are lent. Whoever has both lets go of what is lent as the archive tells a message as gone,
+/// and drops it after the connection.
+#[derive(Debug)]
+pub(crate) struct Lends<'a> {
+    pub(crate) archived: Archived<'a>,
+    pub(crate) lent: &'a mut Lent,
+}
+
+/// What a write of an owner came to: the owner comes back if it was refused. With the change of pressure, if a budget covers it.
+pub(crate) struct Owned<T> {
+    pub(crate) answer: Result<sys::Written, (Refusal, T)>,
+    pub(crate) pressure: u32,
+}
+
+impl<T> Owned<T> {
+    fn out_of_memory(owner: T) -> Owned<T> {
+        Owned { answer: Err((Refusal::NoMemory, owner)), pressure: sys::PRESSURE_UNCHANGED }
+    }
+}
+
+impl Lends<'_> {
+    /// Writes the bytes of an owner, and keeps it until the message is gone.
+    #[inline]
+    pub(crate) fn write_owned<T: AsRef<[u8]> + Send + 'static>(mut self, owner: T) -> Owned<T> {
+        if self.lent.make_room().is_err() {
+            return Owned::out_of_memory(owner);
+        }
+        let mut owner = Some(owner);
+        // most often it is a list, which needs no memory besides
+        if let Some(list) = (&mut owner as &mut dyn Any).downcast_mut::<Option<Vec<u8>>>() {
+            let Some(owned) = list.take() else { unreachable!("it was there") };
+            let Owned { answer, pressure } = self.write_list(owned);
+            let answer = answer.map_err(|(refusal, owned)| {
+                *list = Some(owned);
+                refusal
+            });
+            return Owned { answer: answer.map_err(|refusal| (refusal, owner.expect("it was put back"))), pressure };
+        }
+        let owner = match Owner::new(owner.expect("it is there")) {
+            Ok(owner) => owner,
+            Err(owner) => return Owned::out_of_memory(owner),
+        };
+        let bytes = owner.bytes();
+        // SAFETY: the pointer and the length are those of one slice. Its owner is kept under the promise of the message; what is
+        // kept is let go if the archive told the message as gone, and behind the archive at the end.
+        let told = unsafe { self.archived.write(bytes.as_ptr(), bytes.len()) };
+        let answer = match done(told.written.status) {
+            Ok(()) => {
+                self.lent.keep(told.written.id, owner.of_any_type());
+                Ok(told.written)
+            }
+            Err(refusal) => Err((refusal, owner.into_inner())),
+        };
+        Owned { answer, pressure: told.pressure }
+    }
+
+    /// The same of a list, for which there is room among what is kept.
+    #[inline]
+    fn write_list(&mut self, list: Vec<u8>) -> Owned<Vec<u8>> {
+        // SAFETY: as of any owner. The bytes of a list stay where they are if it is moved.
+        let told = unsafe { self.archived.write(list.as_ptr(), list.len()) };
+        let answer = match done(told.written.status) {
+            Ok(()) => {
+                self.lent.keep(told.written.id, Kept::List(list));
+                Ok(told.written)
+            }
+            Err(refusal) => Err((refusal, list)),
+        };
+        Owned { answer, pressure: told.pressure }
+    }
+}
+
+/// A message that is being made, in memory of the connection's. Without [`Made::write`] it comes to nothing.
+#[derive(Debug)]
+pub(crate) struct Made<'a> {
+    lends: Lends<'a>,
+    /// Where its bytes begin in the chunk, in which each byte before is of a message.
+    start: usize,
+    most: usize,
+}
+
+impl<'a> Made<'a> {
+    /// Memory in which a message of at most so many bytes is made.
+    pub(crate) fn new(lends: Lends<'a>, most: usize) -> Result<Made<'a>, Refusal> {
+        lends.lent.reserve(most)?;
+        let start = lends.lent.made();
+        Ok(Made { lends, start, most })
+    }
+
+    /// How many bytes it may still have.
+    pub(crate) fn left(&self) -> usize {
+        self.most - self.bytes().len()
+    }
+
+    pub(crate) fn bytes(&self) -> &[u8] {
+        self.lends.lent.made_from(self.start)
+    }
+
+    /// Adds as many of these bytes as it may still have, and returns how many.
+    pub(crate) fn add(&mut self, bytes: &[u8]) -> usize {
+        let count = bytes.len().min(self.left());
+        self.lends.lent.add(&bytes[..count])
+    }
+
+    /// Writes it.
+    pub(crate) fn write(mut self) -> sys::PressedWritten {
+        let bytes = self.lends.lent.made_from(self.start);
+        let (at, length) = (bytes.as_ptr(), bytes.len());
+        // SAFETY: the pointer and the length are those of one slice. The chunk is kept with the promise of the last message in it,
+        // and nobody changes these bytes: others are added behind them.
+        let told = unsafe { self.lends.archived.write(at, length) };
+        if told.written.status == sys::OK {
+            self.lends.lent.keep_made(told.written.id);
+            self.start += length;
+        }
+        told
+    }
+}
+
+impl Drop for Made<'_> {
+    fn drop(&mut self) {
+        self.lends.lent.take_back(self.start);
+    }
+}
