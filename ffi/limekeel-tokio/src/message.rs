@@ -1,5 +1,4 @@
 use bytes::Bytes;
-use hidden::Writes;
 use limekeel::{Block, Refusal, SharedConnection, Written};
 use std::error::Error;
 use std::fmt;
@@ -35,25 +34,16 @@ impl AsRef<[u8]> for Static {
 }
 
 /// The bytes of a message that has not moved away.
-pub fn bytes<M: AsRef<[u8]>>(message: &Option<M>) -> &[u8] {
-    message.as_ref().expect(LEFT).as_ref()
+pub fn bytes<M: AsRef<[u8]>>(message: Option<&M>) -> &[u8] {
+    message.expect(LEFT).as_ref()
 }
 
-mod hidden {
-    use super::{Bytes, Refusal, SharedConnection, Written, bytes};
+/// How a message is written. It stays there if it is refused or copied, so that it is not dropped under a lock.
+type Write<M> = fn(&SharedConnection, &mut Option<M>) -> Result<Written, Refusal>;
 
-    /// What no user implements.
-    pub trait Writes: AsRef<[u8]> + Sized {
-        /// Writes it. It stays there if it is refused or copied, so that it is not dropped here.
-        fn write_to(message: &mut Option<Self>, connection: &SharedConnection) -> Result<Written, Refusal> {
-            connection.write(bytes(message))
-        }
-
-        /// The same bytes once more, if the connection is lent what runs a user's code when it is dropped.
-        fn lent(&self) -> Option<Bytes> {
-            None
-        }
-    }
+/// What no user implements, as its name is not public.
+pub trait Writes: AsRef<[u8]> + Sized {
+    const WRITE: Write<Self> = |connection, message| connection.write(bytes(message.as_ref()));
 }
 
 impl Writes for &[u8] {}
@@ -61,40 +51,32 @@ impl<const N: usize> Writes for &[u8; N] {}
 impl Writes for &str {}
 
 impl Writes for Bytes {
-    fn write_to(message: &mut Option<Bytes>, connection: &SharedConnection) -> Result<Written, Refusal> {
-        write_owned(connection, message)
-    }
-
-    fn lent(&self) -> Option<Bytes> {
-        (self.len() > FEW).then(|| self.clone())
-    }
+    const WRITE: Write<Self> = owned;
 }
 
-/// Other types whose values are not copied.
-macro_rules! writes {
-    ($($message:ty: $write:expr;)*) => {
-        $(impl Writes for $message {
-            fn write_to(message: &mut Option<Self>, connection: &SharedConnection) -> Result<Written, Refusal> {
-                $write(connection, message)
-            }
-        })*
-    };
+impl Writes for Vec<u8> {
+    const WRITE: Write<Self> = owned;
 }
 
-writes! {
-    Vec<u8>: write_owned;
-    String: write_owned;
-    &Block: |connection: &SharedConnection, block: &mut Option<Self>| connection.write_block(block.expect(LEFT));
-    Static: |connection: &SharedConnection, bytes: &mut Option<Self>| connection.write_static(bytes.expect(LEFT).0);
+impl Writes for String {
+    const WRITE: Write<Self> = owned;
+}
+
+impl Writes for &Block {
+    const WRITE: Write<Self> = |connection, block| connection.write_block(block.expect(LEFT));
+}
+
+impl Writes for Static {
+    const WRITE: Write<Self> = |connection, bytes| connection.write_static(bytes.expect(LEFT).0);
 }
 
 /// Writes an owner, which moves into the connection if it has many bytes.
-fn write_owned<M: AsRef<[u8]> + Send + 'static>(
-    connection: &SharedConnection,
-    message: &mut Option<M>,
-) -> Result<Written, Refusal> {
-    if bytes(message).len() <= FEW {
-        return connection.write(bytes(message));
+fn owned<M>(connection: &SharedConnection, message: &mut Option<M>) -> Result<Written, Refusal>
+where
+    M: AsRef<[u8]> + Send + 'static,
+{
+    if bytes(message.as_ref()).len() <= FEW {
+        return connection.write(bytes(message.as_ref()));
     }
     connection.write_owned(message.take().expect(LEFT)).map_err(|refused| {
         *message = Some(refused.owner);

@@ -1,11 +1,11 @@
-use crate::gate::{Event, Gate, Shared, Waiting, Wrote};
+use crate::gate::{Event, Gate, Link, Shared, Waiting, Wrote};
 use crate::message::{LEFT, Message, TryWriteError, WriteError};
 use crate::sink::OutboundSink;
 use limekeel::Outcome;
-use std::future::{Future, poll_fn};
+use std::future::poll_fn;
 use std::pin::Pin;
 use std::sync::Arc;
-use std::task::{Context, Poll};
+use std::task::{Context, Poll, ready};
 
 /// What tasks write to one client with. Each has a clone, or a reference to one.
 ///
@@ -14,22 +14,15 @@ use std::task::{Context, Poll};
 /// tasks write. A write that was polled and is then neither polled nor dropped holds up those behind it.
 ///
 /// When the last is dropped, all that was written is sent, the stream is shut down, and the [`crate::Pump`] ends.
-#[derive(Debug)]
+#[derive(Clone, Debug)]
 pub struct Outbound {
     /// Where `poll_ready` waits.
     pub(crate) turn: Waiting,
+    /// As long as one has it, more can be written.
+    pub(crate) _open: Arc<Open>,
 }
 
 impl Outbound {
-    pub(crate) fn new(shared: &Arc<Shared>) -> Outbound {
-        shared.with(|gate| gate.outbounds += 1);
-        Outbound { turn: Waiting::new(&Arc::new(Arc::clone(shared))) }
-    }
-
-    fn with<T>(&self, call: impl FnOnce(&mut Gate) -> T) -> T {
-        self.turn.shared.with(call)
-    }
-
     fn receipt(&self, count: u64) -> Receipt {
         Receipt { waiting: Waiting::new(&self.turn.shared), count }
     }
@@ -44,8 +37,8 @@ impl Outbound {
     /// [`WriteError::Gone`] if the connection was finished, its stream is broken, or its pump was dropped, also while
     /// this waits. [`WriteError::Refused`] if the message is too large or memory was refused. The message is dropped
     /// then.
-    pub async fn write<M: Message>(&self, message: M) -> Result<Receipt, WriteError> {
-        self.writes(message, true).await
+    pub fn write<M: Message>(&self, message: M) -> impl Future<Output = Result<Receipt, WriteError>> {
+        self.writes(message, true)
     }
 
     /// The same without a flush: it is sent with the next message that is flushed, or when somebody waits for room or
@@ -54,19 +47,16 @@ impl Outbound {
     /// # Errors
     ///
     /// Those of [`Outbound::write`].
-    pub async fn feed<M: Message>(&self, message: M) -> Result<Receipt, WriteError> {
-        self.writes(message, false).await
+    pub fn feed<M: Message>(&self, message: M) -> impl Future<Output = Result<Receipt, WriteError>> {
+        self.writes(message, false)
     }
 
-    async fn writes<M: Message>(&self, message: M, flushes: bool) -> Result<Receipt, WriteError> {
-        let mut message = Some(message);
-        // most often it need not wait
-        if let Poll::Ready(count) = self.tries(&mut message, flushes) {
-            return Ok(self.receipt(count?));
-        }
-        let mut waiting = Waiting::new(&self.turn.shared);
-        let count = poll_fn(|cx| waiting.poll_write(cx, &mut message, flushes)).await?;
-        Ok(Receipt { waiting, count })
+    fn writes<M: Message>(&self, message: M, flushes: bool) -> impl Future<Output = Result<Receipt, WriteError>> {
+        let (mut message, mut waiting) = (Some(message), Some(Waiting::new(&self.turn.shared)));
+        poll_fn(move |cx| {
+            let count = ready!(waiting.as_mut().expect(LEFT).poll_write(cx, &mut message, flushes))?;
+            Poll::Ready(Ok(Receipt { waiting: waiting.take().expect(LEFT), count }))
+        })
     }
 
     /// Writes a message and flushes, if the connection is writable and nobody waits for a turn.
@@ -108,7 +98,7 @@ impl Outbound {
 
     /// Has all sent that was written so far, by whomever.
     pub fn flush(&self) {
-        self.with(Gate::flush);
+        self.turn.shared.with(Gate::flush);
     }
 
     /// Ready when the connection is writable and it is this one's turn, in order of arrival. It keeps no room: if
@@ -118,7 +108,7 @@ impl Outbound {
     ///
     /// [`WriteError::Gone`], as of [`Outbound::write`].
     pub fn poll_ready(&mut self, cx: &mut Context<'_>) -> Poll<Result<(), WriteError>> {
-        self.turn.poll(cx, (Event::Room, 0), |shared, gate, is_turn| shared.enters(gate, is_turn))
+        self.turn.poll(cx, Event::Room, 0, |_, gate, is_turn| gate.enters(is_turn))
     }
 
     /// Waits as [`Outbound::poll_ready`]: for who makes a message once it may be written, since a task that waits in
@@ -136,19 +126,19 @@ impl Outbound {
     /// Whether a [`Outbound::try_write`] would be accepted now, but for its message.
     #[must_use]
     pub fn is_writable(&self) -> bool {
-        self.with(|gate| self.turn.shared.enters(gate, false) == Poll::Ready(Ok(())))
+        self.turn.shared.with(|gate| gate.enters(false) == Poll::Ready(Ok(())))
     }
 
     /// Whether nothing can be written any more.
     #[must_use]
     pub fn is_gone(&self) -> bool {
-        self.with(|gate| gate.is_over)
+        self.turn.shared.with(|gate| gate.is_over)
     }
 
     /// How many bytes were written and are not sent, with those that each message counts beside its own.
     #[must_use]
     pub fn pending(&self) -> u32 {
-        self.with(|_| self.turn.shared.connection.look().total)
+        self.turn.shared.with(|_| self.turn.shared.connection.glance().total)
     }
 
     /// Flushes, and waits until all is sent that was written so far, by whomever: the stream took it.
@@ -162,7 +152,7 @@ impl Outbound {
 
     /// The receipt of all that was written so far.
     pub(crate) fn all_written(&self) -> Receipt {
-        self.receipt(self.with(|gate| gate.written))
+        self.receipt(self.turn.shared.with(|gate| gate.written))
     }
 
     /// Lets nobody write any more, not even those who wait, and waits until all is sent that was written, and the
@@ -172,7 +162,7 @@ impl Outbound {
     ///
     /// [`WriteError::Gone`] if the pump ended otherwise.
     pub async fn finish(&self) -> Result<(), WriteError> {
-        self.with(|gate| gate.ends(None));
+        self.turn.shared.with(|gate| gate.ends(None));
         // no message has this promise, so it is that of the end
         sent(self.receipt(u64::MAX).await)
     }
@@ -184,20 +174,13 @@ impl Outbound {
     }
 }
 
-impl Clone for Outbound {
-    fn clone(&self) -> Outbound {
-        Outbound::new(&self.turn.shared)
-    }
-}
+/// What all outbounds have together: the last takes it along.
+#[derive(Debug)]
+pub struct Open(pub Link);
 
-impl Drop for Outbound {
+impl Drop for Open {
     fn drop(&mut self) {
-        self.with(|gate| {
-            gate.outbounds -= 1;
-            if gate.outbounds == 0 {
-                gate.ends(None);
-            }
-        });
+        self.0.with(|gate| gate.ends(None));
     }
 }
 
@@ -251,6 +234,6 @@ impl Future for Receipt {
     fn poll(mut self: Pin<&mut Self>, cx: &mut Context<'_>) -> Poll<Outcome> {
         let count = self.count;
         let outcome = |_: &Shared, gate: &mut Gate, _| gate.outcome(count).map_or(Poll::Pending, Poll::Ready);
-        self.waiting.poll(cx, (Event::Sent(count), 0), outcome)
+        self.waiting.poll(cx, Event::Sent(count), 0, outcome)
     }
 }

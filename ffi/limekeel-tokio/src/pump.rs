@@ -1,11 +1,9 @@
-use crate::gate::Shared;
-use crate::outbound::Outbound;
-use limekeel::{Change, Estimate, Marks, Outcome, Refusal, SharedConnection, Transport};
-use std::collections::VecDeque;
-use std::future::Future;
+use crate::gate::{Event, Shared, Waiting};
+use crate::outbound::{Open, Outbound};
+use limekeel::{Estimate, Marks, Outcome, Refusal, SharedConnection, Taken, Transport};
 use std::io::{self, ErrorKind, IoSlice};
 use std::pin::Pin;
-use std::sync::Arc;
+use std::sync::{Arc, Mutex};
 use std::task::{Context, Poll, ready};
 use tokio::io::AsyncWrite;
 
@@ -43,8 +41,12 @@ where
         return Err(Refusal::BadMarks);
     }
     let (connection, transport) = SharedConnection::open(marks, estimate)?;
-    let shared = Shared::new(connection, marks.high.into(), estimate.overhead.into());
-    Ok((Outbound::new(&shared), Pump { stream: Some(stream), transport, shared, paused: None }))
+    let shared = Arc::new(Arc::new(Shared { connection, overhead: estimate.overhead.into(), gate: Mutex::default() }));
+    // how much room there is
+    shared.has_sent(0);
+    let (turn, waiting) = (Waiting::new(&shared), Waiting::new(&shared));
+    let outbound = Outbound { turn, _open: Arc::new(Open(shared)) };
+    Ok((outbound, Pump { stream: Some(stream), transport, waiting, paused: None }))
 }
 
 /// The future that sends what is written with an [`crate::Outbound`], for the user to spawn. It ends with its stream.
@@ -62,7 +64,7 @@ pub struct Pump<S> {
     /// None once it has ended.
     stream: Option<S>,
     transport: Transport,
-    shared: Arc<Shared>,
+    waiting: Waiting,
     /// How many messages were sent when it last let others go before.
     paused: Option<u64>,
 }
@@ -95,61 +97,41 @@ impl<S> Ended<S> {
 impl<S: AsyncWrite + Unpin> Pump<S> {
     /// Ready when all is sent that can come, and the stream is shut down.
     fn poll_all(&mut self, cx: &mut Context<'_>) -> Poll<io::Result<()>> {
-        let Pump { stream, transport, shared, paused } = self;
+        let Pump { stream, transport, waiting, paused } = self;
         let mut stream = Pin::new(stream.as_mut().expect(ENDED));
-        // what was lent, which is dropped without the mutex
-        let mut lent = VecDeque::new();
-        let mut gate = shared.lock();
         for _ in 0..TURNS {
-            if !shared.has_work(&mut gate) {
-                let is_over = gate.is_over;
-                let _old = gate.pump.replace(cx.waker().clone());
-                shared.lets_go(gate);
-                if is_over {
-                    return stream.poll_shutdown(cx);
+            let mut pauses = false;
+            let next = waiting.poll(cx, Event::Work, 0, |shared, gate, _| {
+                let has_work = shared.has_work(gate);
+                // what those write who were let in goes by the same call; but they are waited for once
+                pauses = has_work && gate.kept > 0 && paused.replace(gate.sent) != Some(gate.sent);
+                if has_work || gate.is_over { Poll::Ready(has_work) } else { Poll::Pending }
+            });
+            match next {
+                Poll::Ready(true) if pauses => break,
+                Poll::Ready(true) => {}
+                Poll::Ready(false) => return stream.poll_shutdown(cx),
+                Poll::Pending => {
+                    ready!(stream.poll_flush(cx))?;
+                    return Poll::Pending;
                 }
-                ready!(stream.poll_flush(cx))?;
-                return Poll::Pending;
             }
-            // what those write who were let in goes by the same call; but they are waited for once
-            if gate.kept > 0 && !gate.is_stopped && paused.replace(gate.sent) != Some(gate.sent) {
-                break;
-            }
-            // had from what was sent to what is sent next, and not while the stream is written to
-            let mut had = Some(gate);
-            let sent = transport.send_with(|pieces| {
-                had.take().into_iter().for_each(|gate| shared.lets_go(gate));
-                lent.clear();
-                let took = write_pieces(stream.as_mut(), cx, pieces);
-                had = Some(shared.lock());
-                took
-            })?;
-            gate = had.expect("it was had again");
-            gate.sent = sent.taken.promises.end;
-            gate.is_stopped &= sent.taken.change != Some(Change::Writable);
-            gate.pending = shared.connection.glance().total.into();
-            lent.extend(gate.gone(sent.taken.promises.end));
+            let sent = transport.send_with(|pieces| write_pieces(stream.as_mut(), cx, pieces))?;
+            waiting.shared.has_sent(sent.taken.promises.end);
             if sent.blocked {
-                shared.lets_go(gate);
                 return Poll::Pending;
             }
         }
-        shared.lets_go(gate);
         cx.waker().wake_by_ref();
         Poll::Pending
     }
 }
 
 impl<S> Pump<S> {
-    /// Gives up what is left, and returns how many messages were sent and not sent.
-    fn ends(&mut self, outcome: Outcome) -> (u64, u64) {
-        let (counts, _lent) = self.shared.with(|gate| {
-            gate.ends(Some(outcome));
-            ((gate.sent, gate.written - gate.sent), gate.gone(u64::MAX))
-        });
-        // it is not closed before this
-        let _ = self.transport.give_up(BROKEN);
-        counts
+    /// Gives up what is left, and returns what that was.
+    fn ends(&mut self, outcome: Outcome) -> Taken {
+        self.waiting.shared.with(|gate| gate.ends(Some(outcome)));
+        self.transport.give_up(BROKEN).expect("it is not closed before this")
     }
 }
 
@@ -176,15 +158,16 @@ impl<S: AsyncWrite + Unpin> Future for Pump<S> {
     fn poll(self: Pin<&mut Self>, cx: &mut Context<'_>) -> Poll<Ended<S>> {
         let pump = self.get_mut();
         let error = ready!(pump.poll_all(cx)).err();
-        let (sent, lost) = pump.ends(if error.is_none() { Outcome::Success } else { Outcome::Failed(BROKEN) });
-        Poll::Ready(Ended { stream: pump.stream.take().expect(ENDED), sent, lost, error })
+        let left = pump.ends(if error.is_none() { Outcome::Success } else { Outcome::Failed(BROKEN) });
+        let stream = pump.stream.take().expect(ENDED);
+        Poll::Ready(Ended { stream, sent: left.promises.start, lost: left.count, error })
     }
 }
 
 impl<S> Drop for Pump<S> {
     fn drop(&mut self) {
         if self.stream.is_some() {
-            let _counts = self.ends(Outcome::Failed(DROPPED));
+            let _left = self.ends(Outcome::Failed(DROPPED));
         }
     }
 }

@@ -2,7 +2,6 @@ use crate::message::WriteError;
 use crate::outbound::{Outbound, Receipt, sent};
 use bytes::Bytes;
 use futures_sink::Sink;
-use std::future::Future;
 use std::io;
 use std::pin::Pin;
 use std::task::{Context, Poll, ready};
