@@ -87,12 +87,13 @@ async fn serve(stream: TcpStream, peer: SocketAddr, clients: Clients) -> io::Res
         }
     };
     clients.lock().unwrap_or_else(PoisonError::into_inner).remove(&peer);
+    // an abort is a request: once its task is waited for, no ping goes behind the goodbye
+    pings.abort();
+    let _ended = pings.await;
     if said.is_ok() {
         outbound.write(frame(CLOSE, b"goodbye")).await?;
-        // nobody writes behind that
         outbound.finish().await?;
     }
-    pings.abort();
     pump.abort();
     said
 }
