@@ -1,6 +1,6 @@
 /*
  * A server over epoll in C, of one thread: level-triggered. It reads from a client only while its queue is writable, and makes
- * responses while it is. The queue is queue_limekeel.c, queue_budgeted.c or queue_by_hand.c.
+ * responses while it is. The queue is one of queue_*.c.
  *
  *     epoll_server SECONDS SNDBUF [echo | ROOM HIGH QUANTUM]
  *
@@ -186,11 +186,16 @@ static bool publish(struct client *client, struct request request, uint32_t inde
     return true;
 }
 
-/* Writes the response that was made, of this index. What finds no room is work again. */
-static bool respond(struct client *client, uint32_t size, uint32_t index)
+/* Makes a response where it is to lie, and writes it. What finds no room is work again. */
+static bool respond(struct client *client, struct request request, uint32_t index)
 {
-    enum written written = queue_write(&client->queue, scratch, size);
-    client->needs = written == NO_ROOM ? size : 0;
+    enum written written = NOT_WRITTEN;
+    uint8_t *at = queue_room(&client->queue, request.size);
+    if (at) {
+        response_make(at, request.id, index, request.size);
+        written = queue_made(&client->queue, request.size);
+    }
+    client->needs = written == NO_ROOM ? request.size : 0;
     if (written == NO_ROOM)
         work_undo(&client->work, index);
     else
@@ -226,9 +231,7 @@ static bool answer(struct client *client)
     if (!work_next(&client->work, &request, &index))
         return false;
     switch (request.op) {
-    case OP_GET:
-        response_make(scratch, request.id, index, request.size);
-        return respond(client, request.size, index);
+    case OP_GET: return respond(client, request, index);
     case OP_RESET:
         stats = (struct stats){.open = stats.open};
         queue_stops = 0;

@@ -1,5 +1,5 @@
 /*
- * A queue by hand, as a server in C has it: a list of chunks of 16 KB, into which responses are copied one behind the other. A
+ * A queue by hand, as a server in C has it: a list of chunks of 16 KB, in which responses are made one behind the other. A
  * response that is larger has a chunk of its own. Water marks over the bytes that wait; no promises, no regions.
  */
 #include "queue.h"
@@ -55,17 +55,28 @@ static struct chunk *with_room(struct queue *queue, uint32_t size)
     return chunk;
 }
 
-enum written queue_write(struct queue *queue, const uint8_t *bytes, uint32_t size)
+uint8_t *queue_room(struct queue *queue, uint32_t size)
 {
     struct chunk *chunk = with_room(queue, size);
-    if (!chunk)
-        return NOT_WRITTEN;
-    memcpy(chunk->bytes + chunk->used, bytes, size);
-    chunk->used += size;
+    return chunk ? chunk->bytes + chunk->used : NULL;
+}
+
+enum written queue_made(struct queue *queue, uint32_t size)
+{
+    queue->last->used += size;
     queue->pending += size;
     if (queue->writable && queue->pending > high_mark)
         queue->writable = false, queue_stops++;
     return WRITTEN;
+}
+
+enum written queue_write(struct queue *queue, const uint8_t *bytes, uint32_t size)
+{
+    uint8_t *at = queue_room(queue, size);
+    if (!at)
+        return NOT_WRITTEN;
+    memcpy(at, bytes, size);
+    return queue_made(queue, size);
 }
 
 /* Each queue has a copy, as of servers that append to a client's buffer. */

@@ -5,13 +5,16 @@
  */
 #include "queue_ours.h"
 
+#include <string.h>
+
 #define FEW 2048u  /* up to so many bytes are copied: more that many clients hear share a block */
 #define MUCH 8192u /* with so many bytes a message is ended, so that the marks know of it */
+#define OVERHEAD 0 /* there are few messages: the marks go by their bytes alone, as those of the queue by hand */
 
 void queue_open(struct queue *queue, uint32_t low, uint32_t high)
 {
     *queue = (struct queue){.connection = LIMEKEEL_CONNECTION, .writable = true, .rooms = LIMEKEEL_ROOMS};
-    queue->broken = limekeel_open(&queue->connection, low, high, 96, 8) != LIMEKEEL_OK;
+    queue->broken = limekeel_open(&queue->connection, low, high, OVERHEAD, 8) != LIMEKEEL_OK;
 }
 
 void queue_free(struct queue *queue)
@@ -45,13 +48,26 @@ static bool begin_message(struct queue *queue, uint32_t size)
     return true;
 }
 
-enum written queue_write(struct queue *queue, const uint8_t *bytes, uint32_t size)
+uint8_t *queue_room(struct queue *queue, uint32_t size)
 {
     if (queue->room - queue->filled < size && !begin_message(queue, size))
-        return NOT_WRITTEN;
-    memcpy(queue->at + queue->filled, bytes, size);
+        return NULL;
+    return queue->at + queue->filled;
+}
+
+enum written queue_made(struct queue *queue, uint32_t size)
+{
     queue->filled += size;
     return queue->filled < MUCH || end_message(queue) ? WRITTEN : NOT_WRITTEN;
+}
+
+enum written queue_write(struct queue *queue, const uint8_t *bytes, uint32_t size)
+{
+    uint8_t *at = queue_room(queue, size);
+    if (!at)
+        return NOT_WRITTEN;
+    memcpy(at, bytes, size);
+    return queue_made(queue, size);
 }
 
 static struct limekeel_block block = LIMEKEEL_BLOCK;

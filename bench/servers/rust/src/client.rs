@@ -1,4 +1,4 @@
-use crate::protocol::Work;
+use crate::protocol::{Maker, Request, Work};
 use crate::system::READABLE;
 use limekeel::{Block, Change, Connection, Estimate, Marks, Refusal};
 use std::io::{self, Read};
@@ -10,10 +10,13 @@ pub const TURNS: u32 = 16;
 
 /// Whether what is answered in a turn is one message.
 const IS_JOINED: bool = cfg!(feature = "joined");
-/// Up to how many bytes an answer is joined to others.
+/// Up to how many bytes of a block are copied, and how much room a message has at first.
 const FEW: usize = 2048;
 /// With how many a message is ended, so that the marks know of it.
 const MUCH: usize = 8192;
+/// Joined there are few messages: the marks go by their bytes alone, as those of the queue by hand.
+const ESTIMATE: Estimate =
+    if IS_JOINED { Estimate { overhead: 0, unknown: 8 } } else { Estimate { overhead: 96, unknown: 8 } };
 
 /// What became of a sending.
 #[derive(PartialEq, Eq)]
@@ -29,8 +32,9 @@ pub enum Next {
 pub struct Client {
     pub socket: TcpStream,
     connection: Connection,
-    /// What was answered since the last message, if answers are joined.
+    /// What was answered since the last message, if answers are joined, and how much room the next has.
     answers: Vec<u8>,
+    room: usize,
     pub work: Work,
     /// Whether writers may go on, as the last change said.
     pub is_writable: bool,
@@ -51,8 +55,9 @@ impl Client {
     pub fn new(socket: TcpStream) -> Result<Client, Refusal> {
         Ok(Client {
             socket,
-            connection: Connection::open(Marks::default(), Estimate::default())?,
+            connection: Connection::open(Marks::default(), ESTIMATE)?,
             answers: Vec::new(),
+            room: FEW,
             work: Work::default(),
             is_writable: true,
             stops: 0,
@@ -75,18 +80,36 @@ impl Client {
         }
     }
 
-    pub fn write(&mut self, bytes: &[u8]) -> Result<(), Refusal> {
-        if IS_JOINED && bytes.len() <= FEW {
-            if self.answers.capacity() == 0 {
-                self.answers.reserve(FEW);
-            }
-            self.answers.extend_from_slice(bytes);
-            return if self.answers.len() < MUCH { Ok(()) } else { self.end_message() };
+    /// Makes a response and writes it.
+    #[inline]
+    pub fn respond(&mut self, maker: &mut Maker, request: Request, index: u32) -> Result<(), Refusal> {
+        if IS_JOINED {
+            return self.join(request.size as usize, |answers| maker.make(answers, request, index));
         }
-        self.end_message()?;
+        self.write(maker.response(request, index))
+    }
+
+    /// Writes a copy of these bytes.
+    pub fn write(&mut self, bytes: &[u8]) -> Result<(), Refusal> {
+        if IS_JOINED {
+            return self.join(bytes.len(), |answers| answers.extend_from_slice(bytes));
+        }
         let written = self.connection.write(bytes)?;
         self.note(written.change);
         Ok(())
+    }
+
+    /// Has an answer of this size made behind what was answered since the last message.
+    #[inline]
+    fn join(&mut self, size: usize, make: impl FnOnce(&mut Vec<u8>)) -> Result<(), Refusal> {
+        if self.answers.capacity() - self.answers.len() < size {
+            self.end_message()?;
+            // the first message of a turn has little room, and those behind it much
+            self.answers.reserve_exact(size.max(self.room));
+            self.room = MUCH + FEW;
+        }
+        make(&mut self.answers);
+        if self.answers.len() < MUCH { Ok(()) } else { self.end_message() }
     }
 
     pub fn write_block(&mut self, block: &Block) -> Result<(), Refusal> {
@@ -124,6 +147,7 @@ impl Client {
 
     pub fn send(&mut self) -> io::Result<Next> {
         self.end_message().map_err(io::Error::other)?;
+        self.room = FEW;
         let flushed = self.connection.flush().map_err(io::Error::other)?;
         self.note(flushed.change);
         for _ in 0..TURNS {

@@ -1,6 +1,7 @@
 //! Requests, responses and the pool of bytes: `protocol.h` says what they are.
 
 use std::collections::VecDeque;
+use std::mem::take;
 
 pub const GET: u32 = 1;
 pub const STATS: u32 = 2;
@@ -47,6 +48,14 @@ pub struct Stats {
     pub responses: u64,
 }
 
+fn head(id: u32, index: u32, size: u32) -> [u8; HEAD] {
+    let mut head = [0; HEAD];
+    for (place, number) in head.chunks_exact_mut(4).zip([id, index, size, MAGIC]) {
+        place.copy_from_slice(&number.to_le_bytes());
+    }
+    head
+}
+
 /// Where responses are made.
 pub struct Maker {
     pool: Vec<u8>,
@@ -62,31 +71,32 @@ impl Maker {
             state ^= state << 17;
             state
         });
-        Maker { pool: words.flat_map(u64::to_le_bytes).collect(), scratch: vec![0; MOST] }
+        Maker { pool: words.flat_map(u64::to_le_bytes).collect(), scratch: Vec::with_capacity(MOST) }
     }
 
-    fn head(&mut self, id: u32, index: u32, size: u32) {
-        for (place, number) in [id, index, size, MAGIC].into_iter().enumerate() {
-            self.scratch[4 * place..4 * place + 4].copy_from_slice(&number.to_le_bytes());
-        }
-    }
-
-    /// Response `index` of a request.
-    pub fn response(&mut self, request: Request, index: u32) -> &[u8] {
-        let size = request.size as usize;
-        self.head(request.id, index, request.size);
+    /// Makes response `index` of a request behind what is there.
+    #[inline]
+    pub fn make(&self, to: &mut Vec<u8>, request: Request, index: u32) {
         let from = request.id.wrapping_mul(2654435761).wrapping_add(index.wrapping_mul(40503)) as usize & (WINDOW - 1);
-        self.scratch[HEAD..size].copy_from_slice(&self.pool[from..from + size - HEAD]);
-        &self.scratch[..size]
+        to.extend_from_slice(&head(request.id, index, request.size));
+        to.extend_from_slice(&self.pool[from..from + request.size as usize - HEAD]);
+    }
+
+    /// Response `index` of a request, where the last one was.
+    pub fn response(&mut self, request: Request, index: u32) -> &[u8] {
+        let mut scratch = take(&mut self.scratch);
+        scratch.clear();
+        self.make(&mut scratch, request, index);
+        self.scratch = scratch;
+        &self.scratch
     }
 
     pub fn stats(&mut self, id: u32, stats: Stats) -> &[u8] {
-        self.head(id, 0, STATS_SIZE as u32);
         let numbers = [stats.peak, stats.stops, stats.open, stats.responses, 0, 0];
-        for (place, number) in numbers.into_iter().enumerate() {
-            self.scratch[HEAD + 8 * place..HEAD + 8 * place + 8].copy_from_slice(&number.to_le_bytes());
-        }
-        &self.scratch[..STATS_SIZE]
+        self.scratch.clear();
+        self.scratch.extend_from_slice(&head(id, 0, STATS_SIZE as u32));
+        self.scratch.extend(numbers.into_iter().flat_map(u64::to_le_bytes));
+        &self.scratch
     }
 }
 

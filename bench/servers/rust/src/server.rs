@@ -174,7 +174,10 @@ impl Server {
         }
         let Some((request, index)) = client.work.next() else { return false };
         let response = match request.op {
-            GET => self.maker.response(request, index),
+            GET => {
+                self.stats.responses += 1;
+                return client.respond(&mut self.maker, request, index).is_ok();
+            }
             STATS | RESET => {
                 if request.op == RESET {
                     self.stats = Stats { open: self.stats.open, ..Stats::default() };
