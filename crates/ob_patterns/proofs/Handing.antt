@@ -6,8 +6,8 @@ use Rattle.std.proofs.lemmas.List.Sums.{sum_by-append}
 use Rattle.std.proofs.lemmas.Option.{same_Some, slice_get_within}
 use Rattle.ob_connection.specs.Connected.{Connected}
 use Rattle.ob_patterns.specs.Broadcasting.{AreHanded, Broadcasts, IsHanded, is_handed, is_refused, is_unwritable}
-use Rattle.ob_patterns.specs.declared.many.LeftOut.{LeftOut}
-use Rattle.ob_patterns.specs.declared.many.Reached.{Reached}
+use Rattle.ob_patterns.specs.declared.broadcasting.LeftOut.{LeftOut}
+use Rattle.ob_patterns.specs.declared.broadcasting.Reached.{Reached}
 
 -- what a list has at a place that was set
 get-set_same : {X : Type 0} (xs : List X) (i : ℕ) (x : X) → i < length xs → slice_get (set xs i x) i ≡ Some x

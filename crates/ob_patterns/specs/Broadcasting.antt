@@ -4,9 +4,9 @@ use Rattle.ob_types.specs.declared.message.Message.TheVariants.{Block}
 use Rattle.ob_seq.specs.State.{writable_after}
 use Rattle.ob_connection.specs.Connected.{Connected, Gives}
 use Rattle.ob_patterns.specs.Adding.{Adds, RefusesWrite, written_and_flushed}
-use Rattle.ob_patterns.specs.declared.many.LeftOut.{LeftOut}
-use Rattle.ob_patterns.specs.declared.many.LeftOut.TheVariants.{Unwritable, Refused}
-use Rattle.ob_patterns.specs.declared.many.Reached.{Reached}
+use Rattle.ob_patterns.specs.declared.broadcasting.LeftOut.{LeftOut}
+use Rattle.ob_patterns.specs.declared.broadcasting.LeftOut.TheVariants.{Unwritable, Refused}
+use Rattle.ob_patterns.specs.declared.broadcasting.Reached.{Reached}
 
 -- a connection that got the bytes was writable, and has them written and flushed; one that was left out is as it was:
 -- it was not writable, or it was and refuses a write of the bytes so

@@ -1,5 +1,5 @@
 use Rattle.ob_patterns.proofs.Flushing.{both_added}
-use Rattle.ob_patterns.proofs.answers.respond.Goals as goal
+use Rattle.ob_patterns.proofs.responding.respond.Goals as goal
 
 pub returns-clause-responds : goal.returns-clause-responds
 returns-clause-responds g c =

@@ -1,5 +1,5 @@
 use Rattle.ob_patterns.proofs.Handing.{HandsOn}
-use Rattle.ob_patterns.proofs.many.broadcast.Given as goal
+use Rattle.ob_patterns.proofs.broadcasting.broadcast.Given as goal
 
 abbrev pub invariant-loop-connection : goal.invariant-loop-connection
 invariant-loop-connection l =

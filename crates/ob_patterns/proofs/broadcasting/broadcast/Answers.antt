@@ -2,8 +2,8 @@ use native.Mathlib.Numerals.{unary_clauses}
 use Rattle.std.proofs.Common.{arith, get_or}
 use Rattle.std.proofs.lemmas.Option.{slice_get-get_or}
 use Rattle.ob_patterns.proofs.Handing.{one_handed}
-use Rattle.ob_patterns.proofs.many.broadcast.Goals.{in-Ok, in-Err-Unwritable, in-Err-Refused}
-use Rattle.ob_patterns.proofs.many.broadcast.Goals as goal
+use Rattle.ob_patterns.proofs.broadcasting.broadcast.Goals.{in-Ok, in-Err-Unwritable, in-Err-Refused}
+use Rattle.ob_patterns.proofs.broadcasting.broadcast.Goals as goal
 
 pub loop-connection-preserved : goal.loop-connection-preserved
 loop-connection-preserved c =
