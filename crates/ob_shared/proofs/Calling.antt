@@ -6,10 +6,8 @@ use Rattle.ob_history.specs.History.{History}
 use Rattle.ob_history.specs.Receipt.{receipt_of}
 use Rattle.ob_history.specs.declared.receipt.Receipt.{Receipt}
 use Rattle.ob_history.proofs.Calls.{called_with_place}
-use Rattle.ob_shared.specs.Called.{with_record_of}
-use Rattle.ob_shared.specs.Handed.{Handed}
-use Rattle.ob_shared.specs.Maker.{Maker, one_more}
-use Rattle.ob_shared.specs.Share.{ShareValue, share_after}
+use Rattle.ob_shared.specs.Calls.{with_record_of}
+use Rattle.ob_shared.specs.Share.{Handed, Maker, one_more, ShareValue, share_after}
 use Rattle.ob_shared.specs.Sight.{sight_of}
 
 -- what is handed in of a caller with another share and other receipts

@@ -5,7 +5,7 @@ use Rattle.std.proofs.lemmas.Option.{get_or_from_slice_get, slice_get_within}
 use Rattle.ob_types.specs.declared.promise.PromiseId.{PromiseId}
 use Rattle.ob_history.specs.Settlements.{settles}
 use Rattle.ob_history.specs.declared.record.Record.{Record}
-use Rattle.ob_shared.specs.Told.{IsCopiedFreely, IsToldFreely}
+use Rattle.ob_shared.specs.Calls.{IsCopiedFreely, IsToldFreely}
 
 -- if what settles a promise is copied without an allocation, so is a record that stands in the history and settles it
 pub copied_freely : (records : List Record) (id : PromiseId) (place : ℕ) (one : Record) →

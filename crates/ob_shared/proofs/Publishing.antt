@@ -12,10 +12,9 @@ use Rattle.ob_history.specs.Glance.{glance_after}
 use Rattle.ob_history.specs.Legal.{IsLegal}
 use Rattle.ob_history.specs.declared.record.Record.{Record}
 use Rattle.ob_history.proofs.Beginnings.{begins_itself, begins_further, none_begin}
-use Rattle.ob_shared.specs.Reads.{Knows, Learns, Reads}
-use Rattle.ob_shared.specs.Ruled.{Fits, Ruled, publishing, reading}
+use Rattle.ob_shared.specs.Published.{Knows, Learns, Reads, Fits, Ruled, publishing, reading}
 use Rattle.ob_shared.specs.Sight.{packed_glance}
-use Rattle.ob_shared.specs.declared.view.View.{View}
+use Rattle.ob_shared.specs.declared.rule.View.{View}
 
 abbrev St : Type 0
 St = State (Unit {0}) View

@@ -5,11 +5,9 @@ use Rattle.ob_history.specs.Glance.{glance_after}
 use Rattle.ob_history.specs.Legal.{IsLegal}
 use Rattle.ob_history.specs.declared.record.Record.{Record}
 use Rattle.ob_shared.specs.Opened.{Opened}
-use Rattle.ob_shared.specs.Reads.{Knows}
-use Rattle.ob_shared.specs.Ruled.{publishing, reading}
-use Rattle.ob_shared.specs.Seats.{HasPublished, IsReader}
+use Rattle.ob_shared.specs.Published.{Knows, publishing, reading, HasPublished, IsReader}
 use Rattle.ob_shared.specs.Sight.{packed_glance}
-use Rattle.ob_shared.specs.declared.view.View.{View}
+use Rattle.ob_shared.specs.declared.rule.View.{View}
 
 module _ (opened : Opened) (old new : Seat (Unit {0}) View) (table : new.table_id ≡ old.table_id) where
   abbrev SeenLegally : Knows → Type 0

@@ -14,7 +14,7 @@ pub record Opened : Type 0 where
   pub limit : ℕ
   pub table : TableId
 
--- a table that is none
+-- a filler for `nothing_opened`, which has no table
 abbrev no_table : TableId
 no_table = record { words = 0; slots = 0; views_name = 0; atom = 0; block = 0; offset = 0; slot_names = [] }
 

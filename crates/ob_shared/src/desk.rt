@@ -1,7 +1,8 @@
 ghost use Rattle.std.specs.Prelude.{◌≡◌, OnOk, OnErr};
 ghost use Rattle.std.specs.Sync.Mutex.{mutex_guard_value};
 ghost use Rattle.ob_history.specs.Words.{IsBeginning, IsCall, IsRecording, IsReservation, IsBufferOf, AreGivenSince, IsLookAt};
-ghost use Rattle.ob_shared.specs.Words.{one_more, IsAsOpened, share_after};
+ghost use Rattle.ob_shared.specs.Share.{one_more, share_after};
+ghost use Rattle.ob_shared.specs.Opened.{IsAsOpened};
 
 use crate::locked::Locked;
 use crate::named::Named;
@@ -29,7 +30,7 @@ pub struct Desk<'b, L: Named> {
 
 impl<'b, L: Named> Model for Desk<'b, L> {
     ghost use Rattle.std.specs.Sync.Mutex.{mutex_guard_value};
-    ghost use Rattle.ob_shared.specs.Held.{Held};
+    ghost use Rattle.ob_shared.specs.Share.{Held};
 
     ghost Value = { Held };
 

@@ -1,5 +1,5 @@
 ghost use Rattle.std.specs.Prelude.{◌≡◌};
-ghost use Rattle.ob_shared.specs.Called.{nothing_done};
+ghost use Rattle.ob_shared.specs.Calls.{nothing_done};
 
 use crate::finish_fault::FinishFault;
 use crate::named::Named;
@@ -23,7 +23,7 @@ pub struct Done<L: Named> {
 }
 
 impl<L: Named> Model for Done<L> {
-    ghost use Rattle.ob_shared.specs.Handed.{Handed};
+    ghost use Rattle.ob_shared.specs.Share.{Handed};
 
     ghost Value = { Handed };
 

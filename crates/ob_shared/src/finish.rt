@@ -2,9 +2,8 @@
 
 ghost use Rattle.std.specs.Prelude.{◌≡◌, ◌↔◌, [], IfOk, IfSome, IsNone, IsOk, IsOkUnless, IsTrue};
 ghost use Rattle.std.specs.List.{All};
-ghost use Rattle.ob_shared.specs.Finished.{StandsIn, first_short, is_short};
-ghost use Rattle.ob_shared.specs.Foreign.{IsFirstForeign, IsForeign};
-ghost use Rattle.ob_shared.specs.Handed.{HasNoLooks, LacksShare, has_handed_in};
+ghost use Rattle.ob_shared.specs.Finish.{StandsIn, first_short, is_short, IsFirstForeign, IsForeign};
+ghost use Rattle.ob_shared.specs.Share.{HasNoLooks, LacksShare, has_handed_in};
 
 use crate::done::Done;
 use crate::named::Named;

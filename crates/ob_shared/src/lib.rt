@@ -9,14 +9,11 @@ mod finish_fault;
 mod locked;
 mod named;
 mod opening;
-mod plays;
-mod publisher;
 mod reader;
 mod rule;
 mod rung;
 mod share;
 mod shared_buffer;
-mod view;
 mod words;
 mod worked;
 

@@ -6,9 +6,11 @@ ghost use Rattle.ob_types.specs.declared.promise.PromiseState.TheVariants.{Settl
 ghost use Rattle.ob_seq.specs.Looks.{promise_after};
 ghost use Rattle.ob_history.specs.Words.{accepted_commands, IsBeginning, IsCall, IsRecording, IsReservation, new_history};
 ghost use Rattle.ob_history.specs.Words.{IsBufferOf, AreGivenSince, receipt_of, IsLookAt, settlements_in};
-ghost use Rattle.ob_shared.specs.Words.{HandsInAll, StandsIn, first_short, IsForeign, HasNoLooks, LacksShare};
-ghost use Rattle.ob_shared.specs.Words.{made_by, one_more, IsAsOpened, share_after, IsCheckIn, IsCopiedFreely};
-ghost use Rattle.ob_shared.specs.Words.{IsToldFreely, IsUnknown, IsUnsettled, TellsOf, after_meeting};
+ghost use Rattle.ob_shared.specs.Finish.{HandsInAll, StandsIn, first_short, IsForeign, after_meeting};
+ghost use Rattle.ob_shared.specs.Share.{HasNoLooks, LacksShare, made_by, one_more, share_after};
+ghost use Rattle.ob_shared.specs.Opened.{IsAsOpened};
+ghost use Rattle.ob_shared.specs.Sight.{IsCheckIn};
+ghost use Rattle.ob_shared.specs.Calls.{IsCopiedFreely, IsToldFreely, IsUnknown, IsUnsettled, TellsOf};
 ghost use Rattle.ob_shared.specs.declared.finish_fault.FinishFault.TheVariants.{ForeignReceipt, ReceiptsMissing};
 
 use crate::callers::Callers;
@@ -16,11 +18,10 @@ use crate::done::Done;
 use crate::finish::{first_foreign, first_short, lacks_share};
 use crate::finish_fault::FinishFault;
 use crate::named::Named;
-use crate::publisher::Publisher;
 use crate::reader::Reader;
 use crate::rung::{Owed, Rung};
 use crate::share::Share;
-use crate::words::Words;
+use crate::words::{Publisher, Words};
 use ob_history::{Receipt, Record, Recorded, Seen, a_history_tells_each_settled_promise};
 use ob_seq::Buffer;
 use ob_types::{Command, PromiseId, PromiseState, Refusal};
@@ -45,7 +46,7 @@ pub struct Locked<L: Named> {
 impl<L: Named> Model for Locked<L> {
     ghost use Rattle.std.specs.Prelude.{◌≡◌, length};
     ghost use Rattle.ob_history.specs.History.{History};
-    ghost use Rattle.ob_shared.specs.Rung.{settling_count};
+    ghost use Rattle.ob_shared.specs.Calls.{settling_count};
 
     ghost Value = { History };
 

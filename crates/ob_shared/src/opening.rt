@@ -6,12 +6,10 @@ ghost use Rattle.ob_shared.specs.Share.{new_shares};
 use crate::callers::Callers;
 use crate::locked::Locked;
 use crate::named::Named;
-use crate::publisher::Publisher;
-use crate::rule::{PUBLISHED, Rule, WORDS};
+use crate::rule::{PUBLISHED, Rule, View, WORDS};
 use crate::share::Share;
 use crate::shared_buffer::SharedBuffer;
-use crate::view::View;
-use crate::words::Words;
+use crate::words::{Publisher, Words};
 use atomic_table::{Seat, Table};
 use ob_history::{Glance, Recorded};
 use ob_types::{Estimate, Refusal, WaterMark, pack};
@@ -35,7 +33,7 @@ pub struct Opening {
 
 impl Model for Opening {
     ghost use Rattle.std.specs.Prelude.{◌≡◌, ◌<◌, ◌≤◌};
-    ghost use Rattle.ob_shared.specs.NewTable.{IsNewTable};
+    ghost use Rattle.ob_shared.specs.Published.{IsNewTable};
     ghost use Rattle.ob_shared.specs.Opened.{Opened};
 
     ghost Value = { Opened };

@@ -1,11 +1,11 @@
 ghost use Rattle.std.specs.Prelude.{◌≡◌, false, []};
 ghost use Rattle.ob_history.specs.Legal.{IsLegal};
-ghost use Rattle.ob_shared.specs.Seats.{IsReader};
+ghost use Rattle.ob_shared.specs.Published.{IsReader};
 ghost use Rattle.ob_shared.specs.Sight.{IsRead, Sight, sight_of};
 
 use crate::named::Named;
+use crate::rule::View;
 use crate::shared_buffer::SharedBuffer;
-use crate::view::View;
 use crate::words::Words;
 use atomic_table::Seat;
 use ob_history::{Glance, a_history_keeps_to_the_limits};

@@ -1,7 +1,7 @@
 //! How those who wait for a promise are woken.
 
 ghost use Rattle.std.specs.Prelude.{◌≡◌, ◌+◌, ◌<◌, true, cond};
-ghost use Rattle.ob_shared.specs.Rung.{settles_any};
+ghost use Rattle.ob_shared.specs.Calls.{settles_any};
 
 use ob_types::{Refusal, Reply};
 use std::sync::Condvar;

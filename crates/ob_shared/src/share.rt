@@ -1,6 +1,5 @@
 ghost use Rattle.std.specs.Prelude.{◌≡◌, ◌+◌, ◌-◌, ◌<◌, ◌^◌, []};
-ghost use Rattle.ob_shared.specs.Maker.{one_more};
-ghost use Rattle.ob_shared.specs.Share.{new_share};
+ghost use Rattle.ob_shared.specs.Share.{one_more, new_share};
 ghost use Rattle.ob_shared.specs.Sight.{IsRead, sight_of};
 
 use crate::named::Named;

@@ -14,8 +14,8 @@ use Rattle.ob_history.specs.Own.{records_of}
 use Rattle.ob_history.specs.Receipt.{record_of}
 use Rattle.ob_history.specs.declared.receipt.Receipt.{Receipt}
 use Rattle.ob_history.specs.declared.record.Record.{Record}
-use Rattle.ob_shared.specs.Finished.{HandsInAll}
-use Rattle.ob_shared.specs.Handed.{Handed, made_by}
+use Rattle.ob_shared.specs.Finish.{HandsInAll}
+use Rattle.ob_shared.specs.Share.{Handed, made_by}
 use Rattle.ob_pool.specs.Report.HandedIn.{HaveHandedIn}
 use Rattle.ob_pool.specs.Threads.Sending.{failings_in}
 use Rattle.ob_pool.specs.Report.CarriedOut.{AreCarriedOut, commands_of}

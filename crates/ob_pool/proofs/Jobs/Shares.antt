@@ -10,8 +10,7 @@ use Rattle.ob_types.specs.declared.command.Command.{Command}
 use Rattle.ob_types.specs.declared.estimate.Estimate.{Estimate}
 use Rattle.ob_pool.specs.Threads.Job.{Work, Job, IsNumbered, IsRoomy, asked, work_from, room_for}
 use Rattle.ob_pool.specs.Planning.HandOff.{room_of, rooms_of}
-use Rattle.ob_shared.specs.Maker.{Maker, new_maker}
-use Rattle.ob_shared.specs.Share.{ShareValue, new_share, new_shares}
+use Rattle.ob_shared.specs.Share.{Maker, new_maker, ShareValue, new_share, new_shares}
 
 -- new shares without the last are those of the writers, and the last is the next caller's
 pub last_share : (writers callers : ℕ) (shares first : List ShareValue) (last : ShareValue) → shares ≡ new_shares callers →

@@ -21,9 +21,7 @@ use Rattle.ob_history.specs.Own.{receipts_since, records_of}
 use Rattle.ob_history.specs.Receipt.{receipt_of, record_of}
 use Rattle.ob_history.specs.declared.receipt.Receipt.{Receipt}
 use Rattle.ob_history.specs.declared.record.Record.{Record}
-use Rattle.ob_shared.specs.Handed.{Handed}
-use Rattle.ob_shared.specs.Maker.{Maker}
-use Rattle.ob_shared.specs.Share.{ShareValue}
+use Rattle.ob_shared.specs.Share.{Handed, Maker, ShareValue}
 use Rattle.ob_transport.specs.Content.{Content}
 use Rattle.ob_transport.specs.GrowAlike.{GrowAlike}
 use Rattle.ob_transport.specs.SentBy.{Sent, nothing, sent_by}

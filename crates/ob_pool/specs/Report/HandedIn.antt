@@ -4,8 +4,8 @@ use Rattle.std.specs.List.{All}
 use Rattle.ob_types.specs.WaterMark.{Marks}
 use Rattle.ob_history.specs.Beginning.{IsBeginning}
 use Rattle.ob_history.specs.declared.record.Record.{Record}
-use Rattle.ob_shared.specs.Finished.{HandsInAll}
-use Rattle.ob_shared.specs.Handed.{Handed, made_by}
+use Rattle.ob_shared.specs.Finish.{HandsInAll}
+use Rattle.ob_shared.specs.Share.{Handed, made_by}
 use Rattle.ob_shared.specs.Opened.{IsAsOpened, Opened}
 use Rattle.ob_pool.specs.Report.Counted.{IsCounted}
 use Rattle.ob_pool.specs.Report.TellsOf.{AreAtRest}

@@ -5,9 +5,7 @@ use Rattle.ob_types.specs.declared.command.Command.{Command}
 use Rattle.ob_types.specs.declared.estimate.Estimate.{Estimate}
 use Rattle.ob_history.specs.declared.receipt.Receipt.{Receipt}
 use Rattle.ob_lanes.specs.RunningLane.{RunningLane, WordsValue}
-use Rattle.ob_shared.specs.Handed.{Handed}
-use Rattle.ob_shared.specs.Maker.{Maker, one_more}
-use Rattle.ob_shared.specs.Share.{ShareValue}
+use Rattle.ob_shared.specs.Share.{Handed, Maker, one_more, ShareValue}
 use Rattle.ob_pool.specs.DriveFault.{ComesOfWork}
 use Rattle.ob_pool.specs.Planning.HandOff.{room_of}
 use Rattle.ob_pool.specs.declared.fault.DriveFault.{DriveFault}

@@ -5,8 +5,7 @@ use Rattle.ob_seq.specs.Rows.{Settings}
 use Rattle.ob_history.specs.Receipt.{record_of}
 use Rattle.ob_history.specs.declared.receipt.Receipt.{Receipt}
 use Rattle.ob_history.specs.declared.record.Record.{Record}
-use Rattle.ob_shared.specs.Handed.{Handed}
-use Rattle.ob_shared.specs.Maker.{Maker}
+use Rattle.ob_shared.specs.Share.{Handed, Maker}
 use Rattle.ob_transport.specs.Content.{Content}
 use Rattle.ob_transport.specs.SentBy.{Sent}
 use Rattle.ob_transport.specs.SentIn.{sent_in}

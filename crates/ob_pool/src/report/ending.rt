@@ -3,7 +3,9 @@
 ghost use Rattle.std.specs.List.{All};
 ghost use Rattle.std.specs.Prelude.{◌≡◌, ◌≤◌, ◌++◌, [], ◌∷◌, length, IfErr, IfOk};
 ghost use Rattle.ob_history.specs.Beginning.{IsBeginning};
-ghost use Rattle.ob_shared.specs.Words.{HandsInAll, IsAsOpened, made_by};
+ghost use Rattle.ob_shared.specs.Finish.{HandsInAll};
+ghost use Rattle.ob_shared.specs.Opened.{IsAsOpened};
+ghost use Rattle.ob_shared.specs.Share.{made_by};
 ghost use Rattle.ob_pool.specs.DriveFault.{ComesOfWork};
 ghost use Rattle.ob_pool.specs.Report.HandedIn.{TellsEnd};
 

@@ -8,10 +8,9 @@ use Rattle.ob_seq.specs.Rows.{Settings}
 use Rattle.ob_history.specs.Beginning.{IsBeginning}
 use Rattle.ob_history.specs.Legal.{IsLegal}
 use Rattle.ob_history.specs.Own.{records_of}
-use Rattle.ob_shared.specs.Finished.{HandsInAll}
-use Rattle.ob_shared.specs.Handed.{Handed}
+use Rattle.ob_shared.specs.Finish.{HandsInAll}
+use Rattle.ob_shared.specs.Share.{Handed, ShareValue}
 use Rattle.ob_shared.specs.Opened.{Opened}
-use Rattle.ob_shared.specs.Share.{ShareValue}
 use Rattle.ob_transport.specs.SentBytes.{sent_bytes}
 use Rattle.ob_transport.specs.SentUnits.{sent_units}
 use Rattle.ob_pool.specs.Report.Counted.{IsCounted}

@@ -5,10 +5,8 @@ use Rattle.ob_history.specs.Beginning.{IsBeginning}
 use Rattle.ob_history.specs.History.{History}
 use Rattle.ob_history.specs.Settlements.{settlements_in}
 use Rattle.ob_seq.specs.Pending.{times_settled}
-use Rattle.ob_shared.specs.Finished.{StandsIn, first_short}
-use Rattle.ob_shared.specs.Foreign.{IsForeign}
-use Rattle.ob_shared.specs.GivenBack.{after_meeting}
-use Rattle.ob_shared.specs.Handed.{Handed}
+use Rattle.ob_shared.specs.Finish.{StandsIn, first_short, IsForeign, after_meeting}
+use Rattle.ob_shared.specs.Share.{Handed}
 use Rattle.ob_shared.proofs.shared_buffer.SharedBuffer.finish.Goals as goal
 
 -- a list that was written over as long as it was is what was written

@@ -1,5 +1,5 @@
 use Rattle.ob_shared.proofs.Seats.{has_published}
-use Rattle.ob_shared.proofs.publisher.Publisher.publish.Goals as goal
+use Rattle.ob_shared.proofs.words.Publisher.publish.Goals as goal
 
 pub invariant_of-self : goal.invariant_of-self
 invariant_of-self g c =

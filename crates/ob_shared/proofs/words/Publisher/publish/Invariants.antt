@@ -1,4 +1,4 @@
-use Rattle.ob_shared.proofs.publisher.Publisher.publish.Given as goal
+use Rattle.ob_shared.proofs.words.Publisher.publish.Given as goal
 
 -- the records that are published
 abbrev pub ghosts-publish : goal.ghosts-publish

@@ -1,7 +1,7 @@
 use Rattle.std.proofs.Common.{ap}
-use Rattle.ob_shared.specs.Reads.{Knows}
+use Rattle.ob_shared.specs.Published.{Knows}
 use Rattle.ob_shared.proofs.Seats.{still_publishes}
-use Rattle.ob_shared.proofs.publisher.Publisher.reader.Goals as goal
+use Rattle.ob_shared.proofs.words.Publisher.reader.Goals as goal
 
 pub invariant_of-self : goal.invariant_of-self
 invariant_of-self g c =

@@ -1,6 +1,6 @@
 use Rattle.std.proofs.Common.{sym, ◌∙◌}
 use Rattle.ob_shared.proofs.Seats.{still_publishes}
-use Rattle.ob_shared.proofs.publisher.Publisher.take.Goals as goal
+use Rattle.ob_shared.proofs.words.Publisher.take.Goals as goal
 
 pub invariant_of-self : goal.invariant_of-self
 invariant_of-self g c =
