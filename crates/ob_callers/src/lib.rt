@@ -1,4 +1,4 @@
-//! The callers that the README and `docs/` show, which tests play too.
+//! The callers that `docs/calls.md` shows, which tests play too.
 #![tactic(auto)]
 
 pub mod caller;

@@ -202,16 +202,16 @@ fn give_each(
 }
 
 #[test]
-fn covers_are_cut_off_one(rt: HostRuntime) -> Result<(), Fail> {
+fn covers_of_one_budget_see_one_total(rt: HostRuntime) -> Result<(), Fail> {
     let alloc = rt.alloc();
     let Ok(mut first) = Cover::open(alloc, Bounds::new(1000, 200, 800)?, 0) else {
         return Err(Fail::new("out of memory"));
     };
     let Ok(mut other) = first.share() else {
-        return Err(Fail::new("there are 2^62 seats"));
+        return Err(Fail::new("no seat for another thread"));
     };
     let Ok(of_one) = other.split() else {
-        return Err(Fail::new("there are 2^52 seats"));
+        return Err(Fail::new("no seat for a connection"));
     };
     let mut connection = under(alloc, of_one)?;
     let block = Bytes::from_static(&[0; 804]);

@@ -1,4 +1,5 @@
-//! What the program tells of its command line, in place of reading a script, and the texts of faults.
+//! What the program tells of its command line, in place of reading a script, and the texts of faults. The usage and first
+//! line of each help are those of `SUBCOMMANDS` in `ob_cli/src/cli/subcommands.rt`.
 
 use crate::tests::play::{Host, left};
 use ob_core::{AskFault, WorldFault};

@@ -1,4 +1,4 @@
-//! Of `ob_connection`: looks at its messages.
+//! Of `ob_connection`: its looks, and why a write would be refused.
 
 use super::{ESTIMATE, four_bytes, marks};
 use bytes::Bytes;
