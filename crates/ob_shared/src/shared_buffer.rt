@@ -34,8 +34,8 @@ const PAUSES: u32 = 6;
 /// as the one before it, up to eight times that.
 const PAUSE: u32 = 32;
 
-/// How often it lets others run, pauses and tries again, before it naps: some hundred microseconds. A nap takes twice that.
-const YIELDS: u32 = 100;
+/// How often it lets others run and tries again, before it naps.
+const YIELDS: u32 = 10;
 
 /// How often it naps and tries again, before it sleeps until it is woken.
 const NAPS: u32 = 100;
@@ -75,9 +75,9 @@ impl<L: Named> SharedBuffer<L> {
 
     /// A desk for the caller of a share, whose history begins with all that the share has seen. It waits while another
     /// caller has one: it pauses for some microseconds and tries again, six times; then it lets other threads run between
-    /// tries, a hundred times; then it naps for 50 microseconds, a hundred times; and then it sleeps until it is woken. It
-    /// does not allocate. The lock is never poisoned, and no desk is refused; that it is given in any order, or ever, is
-    /// not promised.
+    /// tries, ten times; then it naps for 50 microseconds, a hundred times; and then it sleeps until it is woken. It does
+    /// not allocate. The lock is never poisoned, and no desk is refused; that it is given in any order, or ever, is not
+    /// promised.
     pub fn desk<R: Wait>(&self, rt: &R, share: Share<L>) -> Desk<'_, L>
         ensures maker { result.maker ≡ share.maker }
         ensures part { IsBeginning share.sight.seen result.history.records }
@@ -100,7 +100,6 @@ impl<L: Named> SharedBuffer<L> {
                 return guard;
             }
             yield_now();
-            pause(PAUSE);
         }
         // nobody else has this one, so nothing but time ends a nap
         let parker = Parker::new();
