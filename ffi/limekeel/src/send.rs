@@ -153,10 +153,11 @@ pub(crate) fn once(
     source: &mut impl Source,
     mut write: impl FnMut(&[IoSlice<'_>]) -> io::Result<usize>,
 ) -> io::Result<Sent> {
-    if source.is_closed() {
+    let (bytes, blocked) = write_once(source, &mut write)?;
+    // a closed connection has nothing to offer, so it is asked for that only then
+    if bytes == 0 && !blocked && source.is_closed() {
         return Err(io::Error::new(ErrorKind::BrokenPipe, Refusal::Closed));
     }
-    let (bytes, blocked) = write_once(source, &mut write)?;
     // no refusal is left that could come
     let taken = source.take(bytes as u64).map_err(io::Error::other)?;
     let taken = source.settled_by(taken);
