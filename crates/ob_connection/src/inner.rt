@@ -6,11 +6,8 @@ ghost use Rattle.ob_connection.specs.Connected.{Connected, accepted_writes, most
 ghost use Rattle.ob_connection.specs.Connected.{roomed};
 ghost use Rattle.ob_connection.specs.Inside.{connected_of, HasIds};
 
-mod bits;
-mod cancel;
-mod flush;
+mod commands;
 pub mod offer;
-mod remove;
 mod take;
 mod turns;
 mod write;

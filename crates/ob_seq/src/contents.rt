@@ -5,7 +5,6 @@ ghost use Rattle.ob_seq.specs.Steps.Step.{pending_total};
 ghost use Rattle.ob_seq.specs.Unsent.{Unsent, nothing_unsent, whole, waiting_count};
 
 mod add;
-mod bits;
 mod cut;
 mod flush;
 pub(crate) mod front;

@@ -9,11 +9,8 @@ ghost use Rattle.ob_seq.specs.Room.{IsRoomy};
 ghost use Rattle.ob_seq.specs.Steps.Step.{first_progress, front_id, pending_total, state_at, unflushed_id};
 ghost use Rattle.ob_seq.specs.Unsent.{nothing_unsent, whole};
 
-mod bits;
-mod cancel;
 mod close;
-mod flush;
-mod remove;
+mod commands;
 mod settles;
 mod take;
 mod taking;

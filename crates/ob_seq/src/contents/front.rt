@@ -1,14 +1,16 @@
-ghost use Rattle.std.specs.Prelude.{◌≡◌, ◌+◌, ◌<◌, ◌≤◌, List, length, nat_le};
+ghost use Rattle.std.specs.Prelude.{◌≡◌, ◌+◌, ◌<◌, ◌≤◌, List, length, nat_le, IsErrOf, OnErr};
 ghost use Rattle.ob_types.specs.Limits.{greatest_progress};
 ghost use Rattle.ob_types.specs.declared.promise.Outcome.{Outcome};
 ghost use Rattle.ob_seq.specs.Effect.{block_bytes};
 ghost use Rattle.ob_seq.specs.Steps.Step.{first_progress, front_changed};
-ghost use Rattle.ob_seq.specs.Steps.Commands.{progressed_entry, first_length, front_skipped, skipped_entry};
-ghost use Rattle.ob_seq.specs.Unsent.{pending_entries, pending_entry, whole};
+ghost use Rattle.ob_seq.specs.Steps.Commands.{progress_step, progressed_entry, first_length, front_skipped};
+ghost use Rattle.ob_seq.specs.Steps.Commands.{skipped_entry};
+ghost use Rattle.ob_seq.specs.Steps.Within.{MakesWithin, done_reply};
+ghost use Rattle.ob_seq.specs.Unsent.{pending_entries, pending_entry, waiting_count, whole};
 
 use crate::contents::Contents;
 use crate::entry::Entry;
-use ob_types::Message;
+use ob_types::{Message, Refusal};
 
 /// The most progress of one message, in bytes: `Long.MAX_VALUE`. Our own limit.
 const MAX_PROGRESS: u64 = 9223372036854775807;
@@ -24,8 +26,30 @@ impl Contents {
         self.entries[0].progress
     }
 
+    /// Adds *n* bytes to the progress of the front.
+    #[inline(always)]
+    pub fn progress(&mut self, n: u64) -> Result<(), Refusal>
+        ensures makes { MakesWithin (progress_step n) done_reply self.old result self.new }
+        ensures as_many { waiting_count self.new ≡ waiting_count self.old }
+        ensures frugal { ¬ IsErrOf result Refusal.NoMemory }
+        ensures refused { OnErr result (self.new ≡ self.old) }
+        ensures room { self.new.room ≡ self.old.room }
+    {
+        if self.closed {
+            return Err(Refusal::Closed);
+        }
+        if self.flushed == 0 {
+            return Err(Refusal::NothingFlushed);
+        }
+        if !self.has_progress_left(n) {
+            return Err(Refusal::TooFar);
+        }
+        self.tell_front(n);
+        Ok(())
+    }
+
     /// Whether *n* more bytes of progress of the front do not pass the limit.
-    pub(super) fn has_progress_left(&self, n: u64) -> bool
+    fn has_progress_left(&self, n: u64) -> bool
         ensures { result ≡ nat_le (first_progress (pending_entries self.now.line) + n) greatest_progress }
     {
         self.current_progress()
@@ -34,7 +58,7 @@ impl Contents {
     }
 
     /// Adds *n* bytes to the progress of the front.
-    pub(super) fn tell_front(&mut self, n: u64)
+    fn tell_front(&mut self, n: u64)
         requires some { 0 < length self.old.line }
         requires fits { first_progress (pending_entries self.old.line) + n ≤ greatest_progress }
         ensures after { (gone : List Outcome) →

@@ -1,14 +1,32 @@
-//! How far the total is from the marks.
+//! The marks in force, and how far the total is from them.
 
-ghost use Rattle.std.specs.Prelude.{◌≡◌, []};
+ghost use Rattle.std.specs.Prelude.{◌≡◌, [], IsErrOf, OnErr};
 ghost use Rattle.ob_seq.specs.Looks.{before_unwritable, before_writable};
+ghost use Rattle.ob_seq.specs.Steps.Commands.{marks_step};
 ghost use Rattle.ob_seq.specs.Steps.Step.{pending_total};
-ghost use Rattle.ob_seq.specs.Unsent.{whole};
+ghost use Rattle.ob_seq.specs.Steps.Within.{MakesWithin, done_reply};
+ghost use Rattle.ob_seq.specs.Unsent.{waiting_count, whole};
 
 use crate::contents::Contents;
-use ob_types::WaterMark;
+use ob_types::{Refusal, WaterMark};
 
 impl Contents {
+    /// Puts these marks in force.
+    #[inline(always)]
+    pub fn set_marks(&mut self, marks: WaterMark) -> Result<(), Refusal>
+        ensures makes { MakesWithin (marks_step marks) done_reply self.old result self.new }
+        ensures as_many { waiting_count self.new ≡ waiting_count self.old }
+        ensures frugal { ¬ IsErrOf result Refusal.NoMemory }
+        ensures refused { OnErr result (self.new ≡ self.old) }
+        ensures room { self.new.room ≡ self.old.room }
+    {
+        if self.closed {
+            return Err(Refusal::Closed);
+        }
+        self.marks = marks;
+        Ok(())
+    }
+
     /// How many bytes more make it unwritable, else 0.
     pub fn before_unwritable(&self) -> u32
         ensures { result ≡ before_unwritable self.now.marks self.now.word (pending_total (whole [] self.now)) }

@@ -1,12 +1,39 @@
-ghost use Rattle.std.specs.Prelude.{◌≡◌, ◌≤◌, ◌==◌, if◌then◌else◌};
-ghost use Rattle.std.specs.Int.{bit_at};
-ghost use Rattle.ob_seq.specs.Steps.Commands.{with_user_bit};
-ghost use Rattle.ob_seq.specs.Steps.Step.{word_after_rise, word_after_fall};
+//! The word: its mark, bit 0, and the user bits.
 
-use ob_types::WaterMark;
+ghost use Rattle.std.specs.Prelude.{◌≡◌, ◌≤◌, ◌==◌, if◌then◌else◌, IsErrOf, OnErr};
+ghost use Rattle.std.specs.Int.{bit_at};
+ghost use Rattle.ob_seq.specs.Steps.Commands.{bit_step, with_user_bit};
+ghost use Rattle.ob_seq.specs.Steps.Step.{word_after_rise, word_after_fall};
+ghost use Rattle.ob_seq.specs.Steps.Within.{MakesWithin, bit_reply};
+ghost use Rattle.ob_seq.specs.Unsent.{waiting_count};
+
+use crate::contents::Contents;
+use ob_types::{Change, Refusal, WaterMark};
 
 /// Bit 0 of the word, which is set while too much is pending.
 const MARK: u32 = 1;
+
+impl Contents {
+    /// Sets the user bit of this index, or clears it if it is to be writable, and returns how that changed writability.
+    #[inline(always)]
+    pub fn user_bit(&mut self, index: u32, writable: bool) -> Result<Option<Change>, Refusal>
+        ensures makes { MakesWithin (bit_step index writable) bit_reply self.old result self.new }
+        ensures as_many { waiting_count self.new ≡ waiting_count self.old }
+        ensures frugal { ¬ IsErrOf result Refusal.NoMemory }
+        ensures refused { OnErr result (self.new ≡ self.old) }
+        ensures room { self.new.room ≡ self.old.room }
+    {
+        if self.closed {
+            return Err(Refusal::Closed);
+        }
+        if index == 0 || index > 31 {
+            return Err(Refusal::BadIndex);
+        }
+        let before = self.word;
+        self.word = with_user_bit(before, index, writable);
+        Ok(Change::between(before, self.word))
+    }
+}
 
 /// The word after the pending bytes rose by `size` to `total`. A rise by 0 is none.
 #[tactic(auto, using(crate::proofs::Word::WordBits::bit_or_one))]
