@@ -1,4 +1,4 @@
-pub mod Admitting
+pub mod Asking
 pub mod Answered
 pub mod Gathered
 pub mod GivingUp

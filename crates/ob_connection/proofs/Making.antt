@@ -3,7 +3,7 @@ use Rattle.ob_connection.proofs.Words.{◌≡◌, refl, sym, subst, List, true, 
 use Rattle.ob_connection.proofs.Words.{NoMemory, Reply, PromiseState, Pending, Step, Makes, Past, held, Steps, Connected}
 use Rattle.ob_connection.proofs.Words.{first_of_step, Option, Command, Moves, step_within, Result, OnErr, Unsent, whole, ap, told_by}
 use Rattle.ob_connection.proofs.Words.{connection_limit}
-use Rattle.ob_seq.proofs.Inside.Made.{makes_refused, makes_taken, makes_wanting}
+use Rattle.ob_seq.proofs.Inside.Made.{makes_refused, makes_taken}
 use Rattle.ob_connection.specs.Becoming.{Becomes, IsFirstRefusal}
 use Rattle.ob_connection.specs.Connected.{room_in, roomed}
 
@@ -55,16 +55,6 @@ module _ {A : Type 0} (step : Pending → Step) (tell : List PromiseState → A 
       );
       refused = refl;
     })
-
-    -- it may be out of memory if nothing else refuses it
-    pub wanting : (new : Connected) → new ≡ inside → ((past : Past inside) → (step (held past)).refusal ≡ None) →
-        Steps step old tell (Err NoMemory) new
-    wanting new same none =
-        subst (λ one. Steps step one tell (Err NoMemory) new) view
-        (subst (λ one. Steps step inside tell (Err NoMemory) one) (sym same) (record {
-          makes = λ past. (past, makes_wanting (held past) (step (held past)) unclosed (none past));
-          refused = refl;
-        }))
 
     -- and else it takes its step
     pub taken : {new : Connected} (value : A) → ((past : Past inside) → (step (held past)).refusal ≡ None) →

@@ -1,10 +1,7 @@
 -- What a call does to a connection, step by step. No public clause cites this module.
-use Rattle.std.specs.Prelude.{◌≡◌, ◌<◌, ℕ, List, [], length, false, true, Option, Result, Ok, IfOk, OnErr, OnOk}
-use Rattle.std.specs.Result.{result_err}
+use Rattle.std.specs.Prelude.{◌≡◌, ℕ, List, length, false, Option, Result, Ok, OnErr}
 use Rattle.ob_types.specs.declared.command.Command.{Command}
-use Rattle.ob_types.specs.PendingSize.{pending_size_of}
-use Rattle.ob_types.specs.declared.command.Command.TheVariants.{RemoveBytes, Write}
-use Rattle.ob_types.specs.declared.message.Message.{Message}
+use Rattle.ob_types.specs.declared.command.Command.TheVariants.{RemoveBytes}
 use Rattle.ob_types.specs.declared.promise.Cause.{Cause}
 use Rattle.ob_types.specs.declared.promise.Outcome.{Outcome}
 use Rattle.ob_types.specs.declared.promise.PromiseState.{PromiseState}
@@ -12,11 +9,11 @@ use Rattle.ob_types.specs.declared.refusal.Refusal.{Refusal}
 use Rattle.ob_types.specs.declared.reply.Reply.{Reply}
 use Rattle.ob_seq.specs.Looks.{blocks_left}
 use Rattle.ob_seq.specs.Pending.{Pending}
-use Rattle.ob_seq.specs.Steps.Commands.{step_within, bytes_removed, whole_cut, has_bytes_left}
+use Rattle.ob_seq.specs.Steps.Commands.{step_within, bytes_removed, whole_cut}
 use Rattle.ob_seq.specs.Steps.Step.{Step, Makes, first_of_step}
 use Rattle.ob_seq.specs.Unsent.{whole}
 use Rattle.ob_seq.specs.declared.contents.cut.Cut.{Cut}
-use Rattle.ob_connection.specs.Connected.{Connected, accepted_writes, connection_limit, most_ids}
+use Rattle.ob_connection.specs.Connected.{Connected, connection_limit}
 use Rattle.ob_connection.specs.Obeying.{as_result, GivesUpBy, taken_reply, told_by}
 use Rattle.ob_connection.specs.declared.replies.Taken.{Taken}
 
@@ -72,13 +69,3 @@ FailsAll old cause taken new =
 abbrev pub IsFirstRefusal : Connected → Command → Option Refusal → Type 0
 IsFirstRefusal connection command refusal =
     (past : Past connection) → refusal ≡ first_of_step (held past) (step_within connection_limit command (held past))
-
--- a message of this size, or of none, is admitted if nothing refuses a write of it but lack of memory; its size is
--- returned then, and else the first refusal
-pub record Admits (connection : Connected) (size : Result ℕ Refusal) (result : Result ℕ Refusal) : Type 0 where
-  pub first : (message : Message) → size ≡ pending_size_of connection.unsent.settings.estimate message →
-      IsFirstRefusal connection (Write message) (result_err result)
-  pub unclosed : OnOk result (connection.unsent.closed ≡ false)
-  pub same : OnOk result (size ≡ result)
-  pub few : OnOk result (accepted_writes connection < most_ids)
-  pub light : IfOk result (λ size. has_bytes_left size (whole [] connection.unsent) ≡ true)

@@ -1,4 +1,5 @@
 -- What a buffer holds, and what its fields say of that.
+pub mod Admitted
 pub mod Blocks
 pub mod Borrowed
 pub mod Entries

@@ -4,7 +4,6 @@ ghost use Rattle.ob_seq.specs.Inside.{unsent_of, IsSound};
 ghost use Rattle.ob_seq.specs.Steps.Step.{pending_total};
 ghost use Rattle.ob_seq.specs.Unsent.{Unsent, nothing_unsent, whole, waiting_count};
 
-mod add;
 mod cut;
 mod flush;
 pub(crate) mod front;
@@ -17,6 +16,7 @@ mod seen;
 mod shut;
 mod take;
 pub(crate) mod word;
+mod write;
 
 use crate::entry::Entry;
 pub use cut::Cut;

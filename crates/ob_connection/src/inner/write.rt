@@ -3,7 +3,7 @@ ghost use Rattle.ob_types.specs.Limits.{greatest_pending_size};
 ghost use Rattle.ob_connection.specs.Obeying.{joined, answer_of_write, written_reply};
 ghost use Rattle.ob_types.specs.declared.command.Command.TheVariants.{Write};
 ghost use Rattle.ob_types.specs.declared.message.Message.TheVariants.{Block};
-ghost use Rattle.ob_connection.specs.Becoming.{Admits, IsFirstRefusal, Moves};
+ghost use Rattle.ob_connection.specs.Becoming.{IsFirstRefusal, Moves};
 ghost use Rattle.ob_connection.specs.Connected.{room_in};
 ghost use Rattle.ob_seq.specs.Unsent.{room_for_one_more, spares};
 ghost use Rattle.ob_types.specs.declared.refusal.Refusal.TheVariants.{NoMemory};
@@ -27,7 +27,9 @@ impl Inner {
         ensures first { (bytes : List ℕ) → length bytes ≡ count → IsFirstRefusal self.now (Write (Block bytes)) result }
         ensures other { ¬ (result ≡ Some Refusal.NoMemory) }
     {
-        self.admits(pending_size_of_length(count as u64, self.contents.estimate()))
+        let size = pending_size_of_length(count as u64, self.contents.estimate());
+        self.contents
+            .admits(size, self.accepted_writes(), MAX_WRITES)
             .err()
     }
 
@@ -72,39 +74,21 @@ impl Inner {
         ensures spares { spares self.old.unsent ≡ true → ¬ IsErrOf (answer_of_write result) NoMemory }
         ensures returned { IfErr result (λ refused. refused.message ≡ message) }
     {
-        let size = match self.admits(pending_size(&message, self.contents.estimate())) {
+        let id = self.accepted_writes();
+        let size = pending_size(&message, self.contents.estimate());
+        let size = match self.contents.admits(size, id, MAX_WRITES) {
             Ok(size) => size,
             Err(refusal) => return Err(Refused { refusal, message }),
         };
-        let (id, before) = (self.accepted_writes(), self.contents.word());
-        match self.contents.add(message, size) {
-            Ok(()) => Ok(Written {
-                id,
-                change: self.change_since(before),
-            }),
-            Err(message) => Err(Refused {
-                refusal: Refusal::NoMemory,
-                message,
-            }),
-        }
-    }
-
-    /// What a message of this size counts, unless a connection refuses it that has all the memory it asks for.
-    // Its callers are a write and what asks before one: as at `write`.
-    #[inline(always)]
-    fn admits(&self, size: Result<u32, Refusal>) -> Result<u32, Refusal>
-        requires { ¬ IsErrOf size Refusal.NoMemory }
-        ensures admits { Admits self.now size result }
-        ensures other { ¬ IsErrOf result Refusal.NoMemory }
-    {
-        if self.contents.is_closed() {
-            return Err(Refusal::Closed);
-        }
-        let size = size?;
-        let id = self.accepted_writes();
-        if id == MAX_WRITES || !self.contents.has_bytes_left(size) {
-            return Err(Refusal::TooMuch);
-        }
-        Ok(size)
+        let change = match self.contents.add(message, size) {
+            Ok(change) => change,
+            Err(message) => {
+                return Err(Refused {
+                    refusal: Refusal::NoMemory,
+                    message,
+                });
+            }
+        };
+        Ok(Written { id, change })
     }
 }

@@ -1,7 +1,7 @@
 -- Each command as a step. Of public clauses those of `Contents` cite it.
 use Rattle.std.specs.Prelude.{ℕ, ◌+◌, ◌&&◌, Bool, false, not, [], ◌∷◌, ◌++◌, length, nat_le, if◌then◌else◌, Option}
 use Rattle.std.specs.Prelude.{Some, None, ◌-◌, true, List, drop, slice_set, slice_index_or, nat_lt, suc, take, min, map}
-use Rattle.std.specs.Prelude.{◌^◌, bit_and, bit_or}
+use Rattle.std.specs.Prelude.{◌^◌, bit_and, bit_or, Result, Ok, Err}
 use Rattle.std.specs.Int.{bit_not, w32}
 use Rattle.ob_types.specs.Change.{change_between}
 use Rattle.ob_types.specs.Limits.{greatest_total, greatest_progress}
@@ -9,7 +9,8 @@ use Rattle.ob_types.specs.PendingSize.{counted_bytes, is_oversize}
 use Rattle.ob_types.specs.declared.message.Message.{Message}
 use Rattle.ob_types.specs.declared.promise.PromiseState.TheVariants.{Waiting, Fixed, Settled}
 use Rattle.ob_types.specs.declared.refusal.Refusal.TheVariants.{Oversize, TooMuch, TooManyBytes, NothingFlushed, TooFar}
-use Rattle.ob_types.specs.declared.refusal.Refusal.TheVariants.{UnknownPromise, FlushedLeft, BadIndex}
+use Rattle.ob_types.specs.declared.refusal.Refusal.TheVariants.{UnknownPromise, FlushedLeft, BadIndex, Closed}
+use Rattle.ob_types.specs.declared.refusal.Refusal.{Refusal}
 use Rattle.ob_types.specs.declared.reply.Answer.TheVariants.{Id, Count, Yes, Done}
 use Rattle.ob_types.specs.declared.message.Message.TheVariants.{Block}
 use Rattle.ob_types.specs.declared.promise.Outcome.{Outcome}
@@ -49,6 +50,17 @@ has_bytes_left size old = nat_le (pending_total old + size) greatest_total
 -- whether a message is not too much for what is held, under a limit on writes
 abbrev pub has_room_within : Option ℕ → ℕ → Pending → Bool
 has_room_within limit size old = has_bytes_left size old && not (is_full limit (length old.promises))
+
+-- what a message of this size counts, or of none, that is written to what is open after this many writes, unless that is
+-- refused under a limit on writes
+abbrev pub admitted_open : Option ℕ → ℕ → Result ℕ Refusal → Pending → Result ℕ Refusal
+admitted_open limit writes (Err refusal) old = Err refusal
+admitted_open limit writes (Ok size) old =
+    if has_bytes_left size old && not (is_full limit writes) then Ok size else Err TooMuch
+
+-- what it counts, unless anything but lack of memory refuses it
+abbrev pub admitted : Option ℕ → ℕ → Result ℕ Refusal → Pending → Result ℕ Refusal
+admitted limit writes size old = if old.closed then Err Closed else admitted_open limit writes size old
 
 -- whether a message is not too much for what a buffer holds
 abbrev pub has_room : ℕ → Pending → Bool
