@@ -4,7 +4,6 @@ pub mod Blocks
 pub mod Borrowed
 pub mod Entries
 pub mod EntrySettlements
-pub mod Failures
 pub mod Fields
 pub mod Gathered
 pub mod Held

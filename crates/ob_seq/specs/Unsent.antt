@@ -47,6 +47,10 @@ pending_entry entry =
 abbrev pub pending_entries : List Entry → List PendingEntry
 pending_entries entries = map pending_entry entries
 
+-- all entries, oldest first, each as if it stood in line
+abbrev pub all_entries : Unsent → List PendingEntry
+all_entries unsent = pending_entries (unsent.line ++ unsent.unflushed)
+
 -- an entry that no flush has reached as a contract sees it: none is voided
 abbrev pub unreached_entry : Entry → PendingEntry
 unreached_entry entry =

@@ -6,7 +6,7 @@ ghost use Rattle.ob_seq.specs.Looks.{before_unwritable, before_writable, blocks_
 ghost use Rattle.ob_seq.specs.Looks.{with_bytes};
 ghost use Rattle.ob_seq.specs.Pending.{Pending};
 ghost use Rattle.ob_seq.specs.Room.{IsRoomy};
-ghost use Rattle.ob_seq.specs.Steps.Step.{first_progress, front_id, pending_total, state_at, unflushed_id};
+ghost use Rattle.ob_seq.specs.Steps.Step.{first_progress, front_id, pending_total, state_at};
 ghost use Rattle.ob_seq.specs.Unsent.{nothing_unsent, whole};
 
 mod close;
@@ -87,13 +87,6 @@ impl Whole {
         ensures few { result ≤ most_writes }
     {
         self.gone.len()
-    }
-
-    /// The id of the first promise of an unflushed message, or of the next one if there is none.
-    pub fn first_unflushed(&self) -> usize
-        ensures { result ≡ unflushed_id self.now }
-    {
-        self.gone.len() + self.contents.line_count()
     }
 
     /// The bytes that are pending.

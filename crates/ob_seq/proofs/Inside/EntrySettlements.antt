@@ -2,8 +2,12 @@
 use Rattle.ob_seq.proofs.Words.{◌≡◌, ℕ, suc, ◌+◌, ◌<◌, Bool, not, List, [], ◌∷◌, ◌++◌, length, take, drop, get_or, sym}
 use Rattle.ob_seq.proofs.Words.{◌∙◌, ap, cond, append_assoc, append-nil, length-append, add-zero, arith, count_by}
 use Rattle.ob_seq.proofs.Words.{length-take-le, take_more, take-append-drop, sum_by-cons, PromiseId, Outcome}
-use Rattle.ob_seq.proofs.Words.{PendingEntry, entry_settlement, entry_settlements}
-use Rattle.std.proofs.lemmas.List.{take-take}
+use Rattle.ob_seq.proofs.Words.{PendingEntry, entry_settlement, entry_settlements, ◌≤◌, refl, map, map-append, length-map, take_all}
+use Rattle.ob_seq.proofs.Words.{Cause, Entry, Failed, failures, front_id, pending_entries, pending_entry, unflushed_id, unreached_entry}
+use Rattle.ob_seq.proofs.Words.{Pending, Unsent, waiting_count, waiting_state, whole}
+use Rattle.std.proofs.lemmas.List.{nil_from_length, take-append-le, take-take}
+use Rattle.ob_seq.specs.Unsent.{all_entries}
+use Rattle.ob_seq.proofs.Inside.Rooms.{fresh_states, front_id_there, promises_there}
 
 -- a list settles what each of its elements does, if their ids go on from a first one
 pub record SettlesEach {A : Type 0} (one : ℕ → A → List (PromiseId × Outcome))
@@ -55,3 +59,44 @@ pub count_of_settlements : (outcome : Outcome) (id : ℕ) (entries : List Pendin
     length (entry_settlements outcome id entries) ≡ count_by (λ entry. not entry.voided) entries
 count_of_settlements outcome =
     settled_count (entries_settle outcome) (λ (entry : PendingEntry). not entry.voided) (λ id entry. grind arith)
+
+-- all that wait
+pub all_wait : (unsent : Unsent) → length (all_entries unsent) ≡ waiting_count unsent
+all_wait unsent =
+    length-map (unsent.line ++ unsent.unflushed) pending_entry ∙ length-append unsent.line unsent.unflushed
+
+-- what waits settles as failed what a close does
+waiting_settle : (cause : Cause) (id : ℕ) (entries : List Entry) →
+    entry_settlements (Failed cause) id (pending_entries entries) ≡ failures cause id (map waiting_state entries)
+waiting_settle cause id [] = refl
+waiting_settle cause id (entry ∷ entries) = let more = waiting_settle cause (suc id) entries in grind arith
+
+module _ (gone : List Outcome) (unsent : Unsent) {now : Pending} (view : whole gone unsent ≡ now) {first : ℕ}
+    (begins : first ≡ length gone) where
+  -- the first in line are the first of all
+  pub in_line : (count : ℕ) → count ≤ length now.line → take count (all_entries unsent) ≡ take count now.line
+  in_line count few =
+      let line = ap (λ (one : Pending). length one.line) view in
+      rw (← view, map-append pending_entry unsent.line unsent.unflushed)
+      (take-append-le count (pending_entries unsent.line) (pending_entries unsent.unflushed) (omega (arith, few, line)))
+
+  -- so they settle what the line does
+  pub line_settles : (outcome : Outcome) (count : ℕ) → count ≤ length now.line →
+      entry_settlements outcome first (take count (all_entries unsent))
+      ≡ entry_settlements outcome (front_id now) (take count now.line)
+  line_settles outcome count few =
+      rw (in_line count few, begins, ← front_id_there gone unsent) (ap (λ (one : Pending). entry_settlements outcome (front_id one) (take count now.line)) view)
+
+  -- and all settle what a close does, if nothing is in line
+  pub all_settle : (cause : Cause) {count : ℕ} → count ≡ waiting_count unsent → length now.line ≡ 0 →
+      entry_settlements (Failed cause) first (take count (all_entries unsent))
+      ≡ failures cause (unflushed_id now) (drop (unflushed_id now) now.promises)
+  all_settle cause {count} all empty =
+      let fresh = unsent.unflushed in
+      let seen = length-map unsent.line pending_entry in
+      let none : unsent.line ≡ [] =
+      nil_from_length unsent.line (omega (arith, seen, empty, ap (λ (one : Pending). length one.line) view)) in
+      let id : first ≡ unflushed_id (whole gone unsent) =
+      omega (arith, begins, promises_there gone unsent, length-map fresh unreached_entry, ap (λ (line : List Entry). length line) none) in
+      rw (take_all count (all_entries unsent) (omega (arith, all, all_wait unsent)), ← view, fresh_states gone unsent, ← id, none)
+      (waiting_settle cause first fresh)

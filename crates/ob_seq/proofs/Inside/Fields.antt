@@ -3,7 +3,7 @@ use Rattle.ob_seq.proofs.Words.{◌∙◌, length-map, [], ◌≡◌, ℕ, ◌+�
 use Rattle.ob_seq.proofs.Words.{sym, arith, Block, Entry, Inside, blocks_left, IsSound, pending_entry, pending_entries}
 use Rattle.ob_seq.proofs.Words.{drop_all, unsent_of, Unsent, whole, pending_total, waiting_count}
 use Rattle.ob_seq.proofs.Words.{take-map}
-use Rattle.std.proofs.lemmas.List.{drop_more, get_or-take, length-drop, length-take, take-take}
+use Rattle.std.proofs.lemmas.List.{drop_more, get_or-take, length-drop, length-take}
 use Rattle.ob_seq.proofs.Inside.Blocks.{left_from_block, left_from_other}
 use Rattle.ob_seq.proofs.Inside.Entries.{both_runs, entry_at, total_of}
 
@@ -26,12 +26,6 @@ module _ (held : Unsent) (inside : Inside) (view : unsent_of inside ≡ held) (s
   -- the line is that of the first entries
   pub line_is : pending_entries held.line ≡ take inside.flushed (pending_entries inside.entries.items)
   line_is = rw (← view) (sym (take-map pending_entry inside.flushed inside.entries.items))
-
-  -- the first entries are the first in line
-  pub first_in_line : (count : ℕ) → count ≤ length held.line → take count inside.entries.items ≡ take count held.line
-  first_in_line count few =
-      let within : count ≤ inside.flushed = omega (arith, line_count) in
-      rw (← view) (sym (take-take count inside.flushed inside.entries.items within))
 
   -- the entry at a place before the cursor stands there in line
   pub in_line : (place : ℕ) (entry : Entry) → place < inside.flushed → entry ≡ get_or inside.entries.items place entry →

@@ -98,18 +98,11 @@ fresh_states gone unsent =
     ap (drop (unflushed_id (whole gone unsent))) (sym (append_assoc settled (map fixed_state unsent.line) rest))
     ∙ drop_at first rest (unflushed_id (whole gone unsent)) id
 
--- whether the entry at a place was voided
-pub back_at : (line unflushed : List Entry) (place : ℕ) (other : PendingEntry) → place < length line →
-    get_or (map (λ entry. entry.taken_back) (line ++ unflushed)) place false
-    ≡ (get_or (pending_entries line) place other).voided
-back_at [] unflushed place other some = absurd (omega arith)
-back_at (entry ∷ line) unflushed zero other some = refl
-back_at (entry ∷ line) unflushed (suc place) other some = back_at line unflushed place other (omega arith)
-
-pub back_first : (line unflushed : List Entry) → 0 < length line →
-    get_or (map (λ entry. entry.taken_back) (line ++ unflushed)) 0 false ≡ is_first_voided (pending_entries line)
-back_first [] unflushed some = absurd (omega arith)
-back_first (entry ∷ line) unflushed some = refl
+-- whether the front was voided, among all that wait
+pub back_first : (line unflushed : List Entry) (other : PendingEntry) → 0 < length line →
+    (get_or (pending_entries (line ++ unflushed)) 0 other).voided ≡ is_first_voided (pending_entries line)
+back_first [] unflushed other some = absurd (omega arith)
+back_first (entry ∷ line) unflushed other some = refl
 
 -- as many messages wait when the state of a promise is set
 pub set_waiting : (id : ℕ) (state : PromiseState) (old new : Unsent) →

@@ -11,7 +11,7 @@ use Rattle.ob_seq.proofs.Rows.Along.{moments_past, settlements_past}
 use Rattle.ob_seq.proofs.Inside.Held.{Held, front_id_is, held_of, line_count, opening, opening_with, left_by_parts, word_at_end}
 use Rattle.ob_seq.proofs.Word.Marks.{IsQuiet, past_after, word_from}
 use Rattle.ob_seq.proofs.Rows.Order.{layout_of}
-use Rattle.ob_seq.proofs.Rows.Parts.{front_of_parts, index_of_parts}
+use Rattle.ob_seq.proofs.Rows.Parts.{index_of_parts}
 
 -- the rows of a history
 abbrev pub rows_of : Pending → List Command → List Row
@@ -41,11 +41,6 @@ fronted buffer commands leaves some =
     let held = held_of buffer commands leaves in
     fronted_by buffer commands layout.gone layout.standing layout.fresh layout.is held
     (rw (line_count buffer layout.gone layout.standing layout.fresh held) at some)
-
-pub front_is : (buffer : Pending) (commands : List Command) (f : Fronted buffer commands) →
-    front (rows_of buffer commands) ≡ Some f.row
-front_is buffer commands f =
-    rw f.rows_are (front_of_parts f.gone f.row (f.standing ++ f.fresh) f.held.all_gone f.held.all_standing.0)
 
 -- and its promise is that behind the promises of the rows that are gone
 pub front_promise_is : (buffer : Pending) (commands : List Command) (f : Fronted buffer commands) →

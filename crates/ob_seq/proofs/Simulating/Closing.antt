@@ -4,10 +4,9 @@ use Rattle.ob_seq.proofs.Words.{append_assoc, append-nil, arith, None, AllByRecu
 use Rattle.ob_seq.proofs.Words.{map-append, Marks, Command, Close, Cause, Count, Row, is_unflushed, unflushed}
 use Rattle.ob_seq.proofs.Words.{counted_size, total, failed, closed_row, Moment, moment_of, moments_along, outcome_of}
 use Rattle.ob_seq.proofs.Words.{refusal_of, settlement, settlements_from, entry_of, Pending, Leaves, closed_pending}
-use Rattle.ob_seq.proofs.Words.{Option, closing_reply, failures, unflushed_id}
+use Rattle.ob_seq.proofs.Words.{Option, closing_reply, failures, unflushed_id, cond, is_waiting, Failed}
 use Rattle.std.proofs.lemmas.List.{drop_at, nil_from_length, take_at}
 use Rattle.ob_seq.specs.Steps.Commands.{closing_step}
-use Rattle.ob_seq.proofs.Inside.Failures.{failure}
 use Rattle.ob_seq.proofs.Rows.Fronts.{Carries, carried, rows_of, some_front}
 use Rattle.ob_seq.proofs.Simulating.Simulation.{Simulates}
 use Rattle.ob_seq.proofs.Inside.Held.{held_of, line_count, promise_of, unflushed_id_is, word_by_past}
@@ -28,7 +27,8 @@ closed_promises cause (row ∷ fresh) all = rw (all.0.place, closed_promises cau
 
 -- what it settles
 settled_by_one : (cause : Cause) (id : ℕ) (row : Row) → IsFresh row →
-    settlement id (outcome_of row.promise) (outcome_of (closed_row cause row).promise) ≡ failure cause id row.promise
+    settlement id (outcome_of row.promise) (outcome_of (closed_row cause row).promise)
+    ≡ cond (is_waiting row.promise) ((record { 0 = id }, Failed cause) ∷ []) []
 settled_by_one cause id row fresh = grind arith
 
 settlements_of_closed : (cause : Cause) (id : ℕ) (fresh : List Row) → AllByRecursion IsFresh fresh →

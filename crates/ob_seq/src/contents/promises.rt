@@ -1,15 +1,17 @@
-ghost use Rattle.std.specs.Prelude.{◌≡◌, ◌+◌, ◌<◌, ◌≤◌, List, length, IsErrOf, OnErr};
+ghost use Rattle.std.specs.Prelude.{◌≡◌, ◌+◌, ◌<◌, ◌≤◌, List, length, take, IfOk, IsErrOf, IsOk, OnErr};
+ghost use Rattle.ob_types.specs.Limits.{inline_settlements, most_writes};
 ghost use Rattle.ob_types.specs.declared.promise.Outcome.{Outcome};
 ghost use Rattle.ob_types.specs.declared.promise.Outcome.TheVariants.{Cancelled};
 ghost use Rattle.ob_types.specs.declared.promise.PromiseState.TheVariants.{Settled};
 ghost use Rattle.ob_seq.specs.Answer.{told_by};
-ghost use Rattle.ob_seq.specs.Steps.Commands.{cancel_step};
+ghost use Rattle.ob_seq.specs.Steps.Commands.{cancel_step, entry_settlements};
 ghost use Rattle.ob_seq.specs.Steps.Step.{promise_set, state_at, Makes};
 ghost use Rattle.ob_seq.specs.Steps.Within.{cancelled_reply};
-ghost use Rattle.ob_seq.specs.Unsent.{whole, waiting_count};
+ghost use Rattle.ob_seq.specs.Unsent.{all_entries, whole, waiting_count};
 
 use crate::contents::Contents;
-use ob_types::{Outcome, PromiseState, Refusal};
+use ob_types::{Outcome, PromiseId, PromiseState, Refusal, Settlements};
+use std::alloc::AllocError;
 
 impl Contents {
     /// The state of the promise of the entry at this place.
@@ -25,6 +27,31 @@ impl Contents {
         } else {
             PromiseState::Waiting
         }
+    }
+
+    /// What the first `count` entries settle when they leave with this outcome, if `first` messages are gone: each promise
+    /// that was not taken back. The first four need no allocation.
+    pub(crate) fn settlements(
+        &self,
+        first: usize,
+        count: usize,
+        outcome: Outcome,
+    ) -> Result<Settlements, AllocError>
+        requires some { count ≤ waiting_count self.now }
+        requires few { first + count ≤ most_writes }
+        ensures value { IfOk result
+            (λ settled. settled ≡ entry_settlements outcome first (take count (all_entries self.now))) }
+        ensures frugal { length (entry_settlements outcome first (take count (all_entries self.now)))
+            ≤ inline_settlements → IsOk result }
+    {
+        let most = self.to_settle_count(count) as u32;
+        let mut settled = Settlements::with_room(self.allocator(), most)?;
+        for place in 0..count {
+            if !self.is_taken_back(place) {
+                settled.push(PromiseId((first + place) as u32), outcome)?;
+            }
+        }
+        Ok(settled)
     }
 
     /// Takes the promise with this id back, and returns whether that came in time, if `first` messages are gone.

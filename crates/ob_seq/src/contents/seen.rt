@@ -1,11 +1,10 @@
 //! The looks at what waits.
 
-ghost use Rattle.std.specs.Prelude.{◌≡◌, ◌<◌, ◌≤◌, ◌++◌, not, false, length, map, take, count_by, slice_index_or, slice_get, option_map};
+ghost use Rattle.std.specs.Prelude.{◌≡◌, ◌<◌, ◌≤◌, not, take, count_by, slice_index_or, slice_get, option_map};
 ghost use Rattle.std.specs.Option.{option_copied};
 ghost use Rattle.std.specs.VecDeque.{deque_len};
-ghost use Rattle.ob_types.specs.Waiting.{is_waiting};
-ghost use Rattle.ob_seq.specs.Looks.{messages_to_send};
-ghost use Rattle.ob_seq.specs.Unsent.{pending_entries, waiting_state, waiting_count};
+ghost use Rattle.ob_seq.specs.Looks.{PendingEntry, messages_to_send};
+ghost use Rattle.ob_seq.specs.Unsent.{all_entries, pending_entries, waiting_count};
 
 use crate::contents::Contents;
 use crate::entry::Entry;
@@ -17,27 +16,17 @@ impl Contents {
     /// Whether the promise of the entry at this place was taken back.
     pub(crate) fn is_taken_back(&self, place: usize) -> bool
         requires { place < waiting_count self.now }
-        ensures { result ≡ slice_index_or (map (λ entry. entry.taken_back) (self.now.line ++ self.now.unflushed)) place false }
+        ensures { (other : PendingEntry) → result ≡ (slice_index_or (all_entries self.now) place other).voided }
     {
         self.entries[place].taken_back
     }
 
-    /// How many of the first `count` in line were not voided.
-    pub(crate) fn to_send_count(&self, count: usize) -> usize
-        requires { count ≤ length self.now.line }
-        ensures { result ≡ count_by (λ entry. not entry.voided) (take count (pending_entries self.now.line)) }
+    /// How many of the first `count` promises were not taken back.
+    pub(crate) fn to_settle_count(&self, count: usize) -> usize
+        requires { count ≤ waiting_count self.now }
+        ensures { result ≡ count_by (λ entry. not entry.voided) (take count (all_entries self.now)) }
     {
-        first_to_send(&self.entries, count)
-    }
-
-    /// How many promises of unflushed messages still wait.
-    pub(crate) fn waiting_count(&self) -> usize
-        ensures { result ≡ count_by is_waiting (map waiting_state self.now.unflushed) }
-    {
-        self.entries
-            .range(self.flushed..)
-            .filter(|entry| !entry.taken_back)
-            .count()
+        first_not_back(&self.entries, count)
     }
 
     /// What is left of the first entry in line.
@@ -58,8 +47,8 @@ impl Contents {
     }
 }
 
-/// How many of the first `count` entries were not voided.
-fn first_to_send(entries: &VecDeque<Entry>, count: usize) -> usize
+/// How many of the first `count` entries have a promise that was not taken back.
+fn first_not_back(entries: &VecDeque<Entry>, count: usize) -> usize
     requires { count ≤ deque_len entries.now }
     ensures { result ≡ count_by (λ entry. not entry.taken_back) (take count entries.now.items) }
 {

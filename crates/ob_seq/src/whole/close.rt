@@ -8,7 +8,7 @@ ghost use Rattle.ob_seq.specs.Steps.Commands.{closed_pending, closing_step, fail
 use crate::contents::Contents;
 use crate::outcomes::Outcomes;
 use crate::whole::Whole;
-use ob_types::{Answer, Cause, Outcome, PromiseId, Refusal, Reply, Settlements};
+use ob_types::{Answer, Cause, Outcome, Refusal, Reply, Settlements};
 use std::alloc::AllocError;
 
 impl Whole {
@@ -38,21 +38,17 @@ impl Whole {
         self.contents.shut();
     }
 
-    /// What the unflushed promises settle when they fail. The first four need no allocation.
+    /// What the unflushed promises settle when they fail; nothing stands in line. The first four need no allocation.
     fn failures(&self, cause: Cause) -> Result<Settlements, AllocError>
+        requires { length self.now.line ≡ 0 }
         ensures value { IfOk result
             (λ settled. settled ≡ failures cause (unflushed_id self.now) (drop (unflushed_id self.now) self.now.promises)) }
         ensures frugal { length (failures cause (unflushed_id self.now) (drop (unflushed_id self.now) self.now.promises))
             ≤ inline_settlements → IsOk result }
     {
-        let first = self.first_unflushed();
-        let mut settled = self.no_settlements();
-        for id in first..self.promise_count() {
-            if self.state_at(id).is_waiting() {
-                settled.push(PromiseId(id as u32), Outcome::Failed(cause))?;
-            }
-        }
-        Ok(settled)
+        let count = self.contents.count();
+        self.contents
+            .settlements(self.gone.len(), count, Outcome::Failed(cause))
     }
 }
 

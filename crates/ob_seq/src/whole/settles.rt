@@ -1,9 +1,8 @@
-ghost use Rattle.std.specs.Prelude.{◌≡◌, ◌<◌, ◌≤◌, not, count_by, length, take, drop};
-ghost use Rattle.ob_types.specs.Waiting.{is_waiting};
+ghost use Rattle.std.specs.Prelude.{◌≡◌, ◌<◌, ◌≤◌, not, count_by, length, take};
 ghost use Rattle.ob_types.specs.declared.promise.Cause.{Cause};
 ghost use Rattle.ob_types.specs.declared.promise.Outcome.{Outcome};
 ghost use Rattle.ob_seq.specs.Steps.Commands.{bytes_step, cancel_step, closing_step, removal_step, step_of};
-ghost use Rattle.ob_seq.specs.Steps.Step.{settled_by_step, settled_open, is_first_voided, unflushed_id};
+ghost use Rattle.ob_seq.specs.Steps.Step.{settled_by_step, settled_open, is_first_voided};
 
 use crate::whole::Whole;
 use ob_types::{Command, PromiseId};
@@ -77,21 +76,14 @@ impl Whole {
         if self.line_count() > 0 {
             return 0;
         }
-        self.unflushed_waiting()
-    }
-
-    /// How many promises of unflushed messages still wait.
-    fn unflushed_waiting(&self) -> u32
-        ensures { result ≡ count_by is_waiting (drop (unflushed_id self.now) self.now.promises) }
-    {
-        self.contents.waiting_count() as u32
+        self.contents.to_settle_count(self.contents.count()) as u32
     }
 
     /// How many of the first `count` in line were not voided.
-    pub(crate) fn unvoided(&self, count: usize) -> u32
+    fn unvoided(&self, count: usize) -> u32
         requires { count ≤ length self.now.line }
         ensures { result ≡ count_by (λ entry. not entry.voided) (take count self.now.line) }
     {
-        self.contents.to_send_count(count) as u32
+        self.contents.to_settle_count(count) as u32
     }
 }

@@ -1,8 +1,7 @@
 //! How entries are taken away from the front of the line.
 
-ghost use Rattle.std.specs.Prelude.{◌≡◌, ◌<◌, ◌≤◌, length, take, option_to_list, option_map, slice_index_or, IsOk, IfOk};
-ghost use Rattle.ob_types.specs.Limits.{inline_settlements, most_writes};
-ghost use Rattle.ob_seq.specs.Looks.{PendingEntry};
+ghost use Rattle.std.specs.Prelude.{◌≡◌, ◌<◌, ◌≤◌, length, take, option_to_list, option_map, IsOk, IfOk};
+ghost use Rattle.ob_types.specs.Limits.{inline_settlements};
 ghost use Rattle.ob_seq.specs.Steps.Commands.{entry_settlements, front_settlement, front_taken};
 ghost use Rattle.ob_seq.specs.Steps.Step.{front_id, times};
 
@@ -24,23 +23,7 @@ impl Whole {
         ensures frugal { length (entry_settlements outcome (front_id self.now) (take count self.now.line))
             ≤ inline_settlements → IsOk result }
     {
-        let first = self.front_id();
-        let mut settled = Settlements::with_room(self.contents.allocator(), self.unvoided(count))?;
-        for place in 0..count {
-            if !self.is_voided(place) {
-                settled.push(PromiseId((first + place) as u32), outcome)?;
-            }
-        }
-        Ok(settled)
-    }
-
-    /// Whether the entry at this place in line was voided.
-    pub(crate) fn is_voided(&self, place: usize) -> bool
-        requires { place < length self.now.line }
-        ensures few { place ≤ most_writes }
-        ensures voided { (other : PendingEntry) → result ≡ (slice_index_or self.now.line place other).voided }
-    {
-        self.contents.is_taken_back(place)
+        self.contents.settlements(self.gone.len(), count, outcome)
     }
 
     /// Takes the first `count` in line away, as `take_front`.

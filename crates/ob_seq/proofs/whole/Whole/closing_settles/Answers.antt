@@ -1,10 +1,13 @@
-use Rattle.ob_seq.proofs.Words.{◌≡◌, length, drop, sym, ◌∙◌, arith, unflushed_id}
-use Rattle.ob_seq.proofs.Inside.Failures.{count_of_failures}
+use Rattle.ob_seq.proofs.Words.{◌≡◌, length, take, refl, sym, ap, ◌∙◌, arith, Failed}
+use Rattle.ob_seq.specs.Unsent.{all_entries}
+use Rattle.ob_seq.proofs.Inside.EntrySettlements.{all_settle, count_of_settlements}
 use Rattle.ob_seq.proofs.whole.Whole.closing_settles.Goals as goal
 
 pub returns : goal.returns
 returns c cause =
-    let now = c.args.self.now in
-    let nothing : length now.line ≡ 0 = omega (arith, c.line_count.ensures.count, c.if-line_count-gt0.false) in
-    c.unflushed_waiting.ensures
-    ∙ rw nothing (sym (count_of_failures cause (unflushed_id now) (drop (unflushed_id now) now.promises)))
+    let inside = c.self.inside in
+    let nothing : length c.args.self.now.line ≡ 0 = omega (arith, c.line_count.ensures.count, c.if-line_count-gt0.false) in
+    c.to_settle_count.ensures
+    ∙ sym (count_of_settlements (Failed cause) (length inside.gone.list) (take c.count.result (all_entries inside.contents)))
+    ∙ ap length (all_settle inside.gone.list inside.contents c.self.view_is refl cause c.count.ensures nothing)
+    ∙ rw nothing refl

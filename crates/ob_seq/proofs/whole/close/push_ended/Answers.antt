@@ -1,5 +1,5 @@
 use Rattle.ob_seq.proofs.Words.{◌≡◌, ◌<◌, ◌+◌, ◌++◌, ◌∷◌, [], List, false, length, get_or, map, take, take_more, map-append, append_assoc, refl, sym, ap, ◌∙◌, arith}
-use Rattle.ob_seq.proofs.Words.{Entry, ended, Failed, Block, Cause, Outcome, ℕ}
+use Rattle.ob_seq.proofs.Words.{Entry, PendingEntry, ended, Failed, Block, Cause, Outcome, ℕ, pending_entries, pending_entry}
 use Rattle.std.proofs.lemmas.List.{nil_from_length, get_or-map}
 use Rattle.ob_seq.proofs.whole.close.push_ended.Goals as goal
 
@@ -8,11 +8,11 @@ none = record { message = Block []; progress = 0; size = 0; taken_back = false }
 
 -- whether an entry was taken back, if nothing is in line
 back : (line unflushed : List Entry) (place : ℕ) → length line ≡ 0 → place < length unflushed →
-    get_or (map (λ entry. entry.taken_back) (line ++ unflushed)) place false
+    (get_or (pending_entries (line ++ unflushed)) place (pending_entry none)).voided
     ≡ (get_or unflushed place none).taken_back
 back line unflushed place nothing within =
     let empty : line ≡ [] = nil_from_length line nothing in
-    rw empty (get_or-map (λ (entry : Entry). entry.taken_back) unflushed place none false within)
+    rw empty (ap (λ (one : PendingEntry). one.voided) (get_or-map pending_entry unflushed place none (pending_entry none) within))
 
 -- one more outcome
 more : (cause : Cause) (before after : List Outcome) (unflushed : List Entry) (place : ℕ) (one : Outcome) →
@@ -29,7 +29,7 @@ loop-place-preserved c =
     let place = c.loop-place.place in
     let within : place < length held.unflushed =
     omega (arith, c.loop-place-test.true, c.count-place-end.ensures, c.requires.unreached) in
-    let flag = c.is_taken_back.ensures ∙ back held.line held.unflushed place c.requires.unreached within in
+    let flag = c.is_taken_back.ensures (pending_entry none) ∙ back held.line held.unflushed place c.requires.unreached within in
     let one : c.if-is_taken_back.push ≡ ended (Failed c.args.cause) (get_or held.unflushed place none) =
     elim c.if-is_taken_back.branch [
       | goal.then-is_taken_back w ↦ w.push-is ∙ rw (sym flag ∙ w.if-is_taken_back.true) refl
