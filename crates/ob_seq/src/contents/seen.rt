@@ -31,7 +31,7 @@ impl Contents {
 
     /// What is left of the first entry in line.
     pub fn current(&self) -> Option<&Message>
-        ensures { option_copied result ≡ option_map (λ entry. entry.message) (slice_get self.now.line 0) }
+        ensures { option_copied result ≡ option_map (λ entry. entry.message) (slice_get (pending_entries self.now.line) 0) }
     {
         if self.flushed == 0 {
             return None;

@@ -1,13 +1,7 @@
-use Rattle.ob_connection.proofs.Words.{◌≡◌, ◌-◌, ℕ, refl, ap, None, Connected, Ok, Err, Result, Refusal}
-use Rattle.std.specs.Prelude.{IsOk}
+use Rattle.ob_connection.proofs.Words.{◌≡◌, ◌-◌, ℕ, refl, ap, None, Connected}
 use Rattle.ob_types.specs.declared.promise.Outcome.{Outcome}
 use Rattle.ob_connection.specs.declared.replies.Taken.{Taken}
 use Rattle.ob_connection.proofs.inner.Inner.give_up.Goals as goal
-
--- a call that replies is not refused
-never_refused : (result : Result Taken Refusal) (refusal : Refusal) → result ≡ Err refusal → IsOk result → ⊥
-never_refused (Ok taken) refusal is answers = absurd (cc)
-never_refused (Err other) refusal is answers = absurd (cc)
 
 -- an interval between equal ends
 between_ends : {from to : ℕ} (outcome : Outcome) {first last : ℕ} → from ≡ first → to ≡ last →
@@ -16,8 +10,7 @@ between_ends : {from to : ℕ} (outcome : Outcome) {first last : ℕ} → from �
 between_ends outcome same end = rw (same, end)
 
 pub unreachable-requires : goal.unreachable-requires
-unreachable-requires c =
-    never_refused c.fail_flushed.result c.in_default.field-0 c.in_default.is (c.fail_flushed.ensures.answers c.requires)
+unreachable-requires c = let answers = rw c.in_default.is at (c.fail_flushed.ensures.answers c.requires) in absurd (cc)
 
 pub returns-clause-all : goal.returns-clause-all
 returns-clause-all c = record {
