@@ -13,7 +13,6 @@ mod give_back;
 mod marks;
 mod promises;
 mod seen;
-mod shut;
 mod take;
 pub(crate) mod word;
 mod write;

@@ -13,7 +13,6 @@ mod close;
 mod commands;
 mod settles;
 mod take;
-mod taking;
 pub(crate) mod write;
 
 use crate::contents::Contents;

@@ -1,11 +1,12 @@
-ghost use Rattle.std.specs.Prelude.{◌≡◌, ◌<◌, ◌+◌, ◌++◌, ◌∷◌, [], not, List, length, if◌then◌else◌, IsErrOf, OnErr};
+ghost use Rattle.std.specs.Prelude.{◌≡◌, ◌<◌, ◌+◌, ◌++◌, ◌∷◌, [], not, List, length, map, if◌then◌else◌, IsErrOf, OnErr};
+ghost use Rattle.ob_types.specs.declared.promise.Cause.{Cause};
 ghost use Rattle.ob_types.specs.declared.promise.Outcome.{Outcome};
-ghost use Rattle.ob_types.specs.declared.promise.Outcome.TheVariants.{Cancelled};
+ghost use Rattle.ob_types.specs.declared.promise.Outcome.TheVariants.{Cancelled, Failed};
 ghost use Rattle.ob_seq.specs.Answer.{told_by};
 ghost use Rattle.ob_seq.specs.Steps.Step.{is_first_voided, Makes};
-ghost use Rattle.ob_seq.specs.Steps.Commands.{front_taken, removal_step};
+ghost use Rattle.ob_seq.specs.Steps.Commands.{closed_pending, front_taken, removal_step};
 ghost use Rattle.ob_seq.specs.Steps.Within.{front_endings, front_reply};
-ghost use Rattle.ob_seq.specs.Unsent.{pending_entries, waiting_count, whole};
+ghost use Rattle.ob_seq.specs.Unsent.{ended, pending_entries, waiting_count, whole};
 
 use crate::contents::{Contents, word};
 use ob_types::{Change, Refusal};
@@ -62,5 +63,19 @@ impl Contents {
         self.total -= entry.size;
         self.word = word::after_removal(self.marks, self.word, entry.size, self.total, notice);
         !entry.taken_back
+    }
+
+    /// Takes all entries away, and closes; nothing stands in line.
+    pub fn shut(&mut self)
+        requires { length self.old.line ≡ 0 }
+        ensures none { waiting_count self.new ≡ 0 }
+        ensures closed { (gone : List Outcome) (cause : Cause) →
+            whole (gone ++ map (ended (Failed cause)) self.old.unflushed) self.new
+            ≡ closed_pending cause (whole gone self.old) }
+        ensures room { self.new.room ≡ self.old.room }
+    {
+        self.entries.clear();
+        self.total = 0;
+        self.closed = true;
     }
 }

@@ -1,10 +1,13 @@
 //! Calls that take several messages away.
 
-ghost use Rattle.ob_seq.specs.Steps.Commands.{failing_step, bytes_step};
-ghost use Rattle.ob_seq.specs.Steps.Step.{Makes, SparesFew};
+ghost use Rattle.std.specs.Prelude.{◌≡◌, ◌<◌, ◌≤◌, length, take, IsOk, IfOk};
+ghost use Rattle.ob_types.specs.Limits.{inline_settlements};
+ghost use Rattle.ob_seq.specs.Steps.Commands.{bytes_step, entry_settlements, failing_step, front_taken};
+ghost use Rattle.ob_seq.specs.Steps.Step.{Makes, SparesFew, front_id, times};
 
 use crate::whole::Whole;
-use ob_types::{Answer, Cause, Outcome, Refusal, Reply};
+use ob_types::{Answer, Cause, Outcome, Refusal, Reply, Settlements};
+use std::alloc::AllocError;
 
 impl Whole {
     /// The step of `Buffer::fail_flushed`.
@@ -38,5 +41,37 @@ impl Whole {
         self.take_first(cut.whole, Outcome::Success, true);
         self.contents.skip_in_front(cut.rest);
         Ok(self.reply(Answer::Count(cut.whole as u32), settled, before))
+    }
+
+    /// What the first `count` in line settle when they are taken away with this outcome. The first four need no
+    /// allocation.
+    fn settlements(&self, count: usize, outcome: Outcome) -> Result<Settlements, AllocError>
+        requires { count ≤ length self.now.line }
+        ensures value { IfOk result
+            (λ settled. settled ≡ entry_settlements outcome (front_id self.now) (take count self.now.line)) }
+        ensures frugal { length (entry_settlements outcome (front_id self.now) (take count self.now.line))
+            ≤ inline_settlements → IsOk result }
+    {
+        self.contents.settlements(self.gone.len(), count, outcome)
+    }
+
+    /// Takes the first `count` in line away, as `take_front`.
+    fn take_first(&mut self, count: usize, outcome: Outcome, notice: bool)
+        requires { count ≤ length self.old.line }
+        ensures { self.new ≡ times count (front_taken notice outcome) self.old }
+    {
+        for _ in 0..count {
+            self.take_front(outcome, notice);
+        }
+    }
+
+    /// Takes the front away, and settles its promise unless it was voided. Without notice the word stays.
+    fn take_front(&mut self, outcome: Outcome, notice: bool)
+        requires { 0 < length self.old.line }
+        ensures { self.new ≡ front_taken notice outcome self.old }
+    {
+        let settles = self.contents.take_front(notice);
+        self.gone
+            .push(if settles { outcome } else { Outcome::Cancelled });
     }
 }
