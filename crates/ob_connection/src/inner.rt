@@ -1,5 +1,4 @@
 ghost use Rattle.std.specs.Prelude.{◌≡◌, ◌≤◌, true};
-ghost use Rattle.ob_types.specs.Change.{change_between};
 ghost use Rattle.ob_types.specs.Limits.{greatest_overhead, greatest_unknown};
 ghost use Rattle.ob_seq.specs.Unsent.{nothing_unsent, waiting_count};
 ghost use Rattle.ob_connection.specs.Connected.{Connected, accepted_writes, most_ids, Shrinks, TakesNoRoom, room_in};
@@ -14,7 +13,7 @@ mod write;
 
 use crate::chunk::Chunks;
 use ob_seq::Contents;
-use ob_types::{Change, Estimate, WaterMark};
+use ob_types::{Estimate, WaterMark};
 use std::alloc::Global;
 use std::marker::Model;
 
@@ -92,12 +91,5 @@ impl Inner {
         if self.contents.count() == 0 {
             self.chunks.close();
         }
-    }
-
-    /// The change of writability since the word was this one.
-    fn change_since(&self, before: u32) -> Option<Change>
-        ensures { result ≡ change_between before self.now.unsent.word }
-    {
-        Change::between(before, self.contents.word())
     }
 }

@@ -15,7 +15,7 @@ ghost use Rattle.ob_connection.specs.Connected.{KeepsRoom, TakesNoRoom, room_in}
 use crate::inner::Inner;
 use crate::replies::Taken;
 use ob_seq::Cut;
-use ob_types::{Cause, Outcome, Refusal};
+use ob_types::{Cause, Change, Outcome, Refusal};
 
 impl Inner {
     /// The step of `Connection::take_sent`.
@@ -149,7 +149,7 @@ impl Inner {
     {
         Taken {
             count: self.gone - from,
-            change: self.change_since(before),
+            change: Change::between(before, self.contents.word()),
             from,
             to: self.gone,
             outcome,

@@ -62,10 +62,6 @@ admitted_open limit writes (Ok size) old =
 abbrev pub admitted : Option ℕ → ℕ → Result ℕ Refusal → Pending → Result ℕ Refusal
 admitted limit writes size old = if old.closed then Err Closed else admitted_open limit writes size old
 
--- whether a message is not too much for what a buffer holds
-abbrev pub has_room : ℕ → Pending → Bool
-has_room size old = has_room_within buffer_limit size old
-
 -- a write as a step, under a limit on writes
 abbrev pub write_step_within : Option ℕ → Message → Pending → Step
 write_step_within limit message old =
