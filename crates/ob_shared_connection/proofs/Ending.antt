@@ -10,13 +10,13 @@ use Rattle.atomic_table.specs.Seated.{TableId}
 use Rattle.atomic_table.specs.Table.{Final, Seen}
 use Rattle.atomic_table.proofs.Lists.{set_else}
 use Rattle.ob_seq.specs.Rows.{Settings}
-use Rattle.ob_connection.specs.Connected.{Connected}
 use Rattle.ob_shared_connection.specs.Handles.{IsEnd}
 use Rattle.ob_shared_connection.specs.Log.{commands_by}
 use Rattle.ob_shared_connection.specs.Ruled.{AreShared, IsTaken, Ruled, calls_with, count_if, handles_of, spent_view}
 use Rattle.ob_shared_connection.specs.Shares.{IsWhole}
 use Rattle.ob_shared_connection.specs.Steps.{IsNamed, handle_of}
 use Rattle.ob_shared_connection.specs.Values.{IsLeftBy}
+use Rattle.ob_shared_connection.specs.declared.carried.Carried.{Carried}
 use Rattle.ob_shared_connection.specs.declared.view.View.{View}
 use Rattle.ob_shared_connection.proofs.Lists.{at_read, sum_set}
 use Rattle.ob_shared_connection.proofs.Shares.{no_other}
@@ -88,11 +88,11 @@ whole_is_free views id view at shares whole free taken =
     (set_else views id taken.seat spent_view apart ∙ taken.at) taken.named)
 
 -- what a seat that is left knows of the end
-pub is_end : (id : ℕ) (view : View) (words : List ℕ) (slots : List Connected) (lock handles : ℕ) (connection : Connected)
+pub is_end : (id : ℕ) (view : View) (words : List ℕ) (slots : List Carried) (lock handles : ℕ) (carried : Carried)
     → IsNamed view → view.holds ≡ false → Final (Seen Ruled id view) words slots → get_elem? words 0 ≡ some lock
-    → get_elem? words 1 ≡ some handles → get_elem? slots 0 ≡ some connection → (table : TableId)
-    → IsEnd (handle_of table view) (record { connection = connection; handles = handles; is_left = eqb lock 0 })
-is_end id view words slots lock handles connection named rests final lock_at handles_at slot_at table =
+    → get_elem? words 1 ≡ some handles → get_elem? slots 0 ≡ some carried → (table : TableId)
+    → IsEnd (handle_of table view) (record { connection = carried.connection; handles = handles; is_left = eqb lock 0 })
+is_end id view words slots lock handles carried named rests final lock_at handles_at slot_at table =
     let s = final.0 in
     let ruled = final.1.0 in
     let at = final.1.1 in
@@ -107,11 +107,11 @@ is_end id view words slots lock handles connection named rests final lock_at han
       part = mine.part;
       own = mine.own named.there ∙ ap (λ (seat : ℕ). commands_by seat ruled.past.log) (sym (mine.numbered named.named));
       left = λ free. (let home = (ruled.free (word 0 lock lock_at ∙ eqb-true lock 0 free)).home in
-          let here = final.4 0 home.connection
-          (ap (λ (homes : List (Option Connected)). get_elem? homes 0) home.here) in
-          subst (λ (settings : Settings). IsLeftBy settings ruled.past.log connection) (sym (mine.opened named.there))
-          (subst (λ (connected : Connected). IsLeftBy ruled.past.settings ruled.past.log connected)
-          (some-injective home.connection connection (sym here ∙ slot_at)) home.left));
+          let here = final.4 0 home.carried
+          (ap (λ (homes : List (Option Carried)). get_elem? homes 0) home.here) in
+          subst (λ (settings : Settings). IsLeftBy settings ruled.past.log carried.connection) (sym (mine.opened named.there))
+          (subst (λ (last : Carried). IsLeftBy ruled.past.settings ruled.past.log last.connection)
+          (some-injective home.carried carried (sym here ∙ slot_at)) home.left));
       few = (let given = ruled.counts.given in
           let count = word 1 handles handles_at in
           let some = one_of_all s.views id view at in

@@ -12,15 +12,15 @@ use Rattle.atomic_table.specs.Table.{State, Act, Allows, Splits, Joins, Valid, k
 use Rattle.atomic_table.specs.Table as table
 use Rattle.atomic_table.proofs.Lists.{at_set, exchanged, set_here}
 use Rattle.ob_seq.specs.Rows.{Settings}
-use Rattle.ob_connection.specs.Connected.{Connected}
 use Rattle.ob_shared_connection.specs.Bells.{bell_word, is_silent}
 use Rattle.ob_shared_connection.specs.Log.{IsBeginning, commands_by, commands_of}
 use Rattle.ob_shared_connection.specs.Ruled.{AreCounted, Fits, IsShown, IsVacant, Ruled, free_view, held_view, settings_of}
-use Rattle.ob_shared_connection.specs.Steps.{IsRung, MayLeave, Knows, Tries, connected_in}
+use Rattle.ob_shared_connection.specs.Steps.{IsRung, MayLeave, Knows, Tries, carried_in}
 use Rattle.ob_shared_connection.specs.Values.{IsLeftBy}
 use Rattle.ob_shared_connection.specs.Waiting.{is_due, moment_after}
 use Rattle.ob_shared_connection.specs.declared.bell.Waiter.{Waiter}
 use Rattle.ob_shared_connection.specs.declared.call.Call.{Call}
+use Rattle.ob_shared_connection.specs.declared.carried.Carried.{Carried}
 use Rattle.ob_shared_connection.specs.declared.view.View.{View}
 use Rattle.ob_shared_connection.proofs.Bells.{known_set, none_silent, other_bell}
 use Rattle.ob_shared_connection.proofs.Shares.{shares_kept}
@@ -31,7 +31,7 @@ module _ (slots id : ℕ) (me : Knows) where
   -- a try that found the lock free
   takes_lock : (next : ℕ) → next ≢ 0 → me.0.named ≡ true → (s : St) → Ruled s → get_elem? s.views id ≡ some me.0
       → get_or s.words 0 0 ≡ 0
-      → (w : View) × (a : Act Connected) × Valid s.homes me.1 a × Ruled (stepped s 0 next id me.1 w a)
+      → (w : View) × (a : Act Carried) × Valid s.homes me.1 a × Ruled (stepped s 0 next id me.1 w a)
       × Tries me (get_or s.words 0 0) (w, carried_after me.1 a)
   takes_lock next taken named s ruled at free =
       let past = ruled.past in
@@ -71,8 +71,8 @@ module _ (slots id : ℕ) (me : Knows) where
         untouched = old.untouched;
       }) in (
         new,
-        takes 0 home.connection,
-        ap (λ (homes : List (Option Connected)). get_elem? homes 0) home.here,
+        takes 0 home.carried,
+        ap (λ (homes : List (Option Carried)). get_elem? homes 0) home.here,
         record {
           past = then_past;
           words = length-set s.words 0 next ∙ words;
@@ -111,8 +111,8 @@ module _ (slots id : ℕ) (me : Knows) where
             own = λ named there. mine.own there ∙ ap (λ (seat : ℕ). commands_by seat past.log) (sym (mine.numbered named))
                 ∙ ap (λ (log : List Call). commands_by me.0.caller log) (sym whole);
             untouched = mine.untouched;
-            left = λ there. subst (λ (log : List Call). IsLeftBy (settings_of me.0) log home.connection) (sym whole)
-                (subst (λ (settings : Settings). IsLeftBy settings past.log home.connection) (sym (mine.opened there))
+            left = λ there. subst (λ (log : List Call). IsLeftBy (settings_of me.0) log home.carried.connection) (sym whole)
+                (subst (λ (settings : Settings). IsLeftBy settings past.log home.carried.connection) (sym (mine.opened there))
                 home.left);
           };
           missed = λ some_one. absurd (some_one free);
@@ -122,7 +122,7 @@ module _ (slots id : ℕ) (me : Knows) where
   -- a try that found it taken
   finds_taken : (next : ℕ) → next ≢ 0 → (s : St) → Ruled s → get_elem? s.views id ≡ some me.0
       → get_or s.words 0 0 ≢ 0
-      → (w : View) × (a : Act Connected) × Valid s.homes me.1 a × Ruled (stepped s 0 next id me.1 w a)
+      → (w : View) × (a : Act Carried) × Valid s.homes me.1 a × Ruled (stepped s 0 next id me.1 w a)
       × Tries me (get_or s.words 0 0) (w, carried_after me.1 a)
   finds_taken next taken s ruled at found =
       let words = ruled.words in (
@@ -142,7 +142,7 @@ module _ (slots id : ℕ) (me : Knows) where
   pub may_try : (next : ℕ) → next ≢ 0 → me.0.named ≡ true → Allows Ruled slots id me 0 (λ n. either (eqb n 0) next n) (Tries me)
   may_try next taken named s ruled homes at small =
       exchanged (get_or s.words 0 0) 0 next
-      (λ word. (w : View) × (a : Act Connected) × Valid s.homes me.1 a × Ruled (stepped s 0 word id me.1 w a)
+      (λ word. (w : View) × (a : Act Carried) × Valid s.homes me.1 a × Ruled (stepped s 0 word id me.1 w a)
       × Tries me (get_or s.words 0 0) (w, carried_after me.1 a))
       (λ free. takes_lock next taken named s ruled at free)
       (λ found. finds_taken (get_or s.words 0 0) found s ruled at found)
@@ -154,10 +154,10 @@ module _ (slots id : ℕ) (me : Knows) where
       (λ found. finds_taken next taken s ruled at found)
 
 -- a seat that has the lock may let it go, once all is published
-lets_go : (slots id : ℕ) (view : View) (connected : Connected) → slots ≡ 1 → view.holds ≡ true → view.shows ≡ true
-    → view.spent ≡ false → IsLeftBy (settings_of view) view.seen connected → ((waiter : Waiter) → IsRung waiter view)
-    → Allows Ruled slots id (view, (0, connected) ∷ []) 0 (λ _. 0) (λ _ new. new ≡ (free_view view, []))
-lets_go slots id view connected one holds shows there left rung s ruled homes at small =
+lets_go : (slots id : ℕ) (view : View) (carried : Carried) → slots ≡ 1 → view.holds ≡ true → view.shows ≡ true
+    → view.spent ≡ false → IsLeftBy (settings_of view) view.seen carried.connection → ((waiter : Waiter) → IsRung waiter view)
+    → Allows Ruled slots id (view, (0, carried) ∷ []) 0 (λ _. 0) (λ _ new. new ≡ (free_view view, []))
+lets_go slots id view carried one holds shows there left rung s ruled homes at small =
     let past = ruled.past in
     let mine = ruled.fits id view at in
     let words = ruled.words in
@@ -184,10 +184,10 @@ lets_go slots id view connected one holds shows there left rung s ruled homes at
         words = length-set s.words 0 0 ∙ words;
         free = λ _. record {
           home = record {
-            connection = connected;
-            here = one_set s.homes (some connected) (homes ∙ one);
-            left = subst (λ (log : List Call). IsLeftBy past.settings log connected) (mine.whole holds)
-                (subst (λ (settings : Settings). IsLeftBy settings view.seen connected) (mine.opened there) left);
+            carried = carried;
+            here = one_set s.homes (some carried) (homes ∙ one);
+            left = subst (λ (log : List Call). IsLeftBy past.settings log carried.connection) (mine.whole holds)
+                (subst (λ (settings : Settings). IsLeftBy settings view.seen carried.connection) (mine.opened there) left);
             all_shown = all_shown;
           };
           nobody = nobody_else past s.views id new ruled.fits (mine.one holds) refl;
@@ -216,7 +216,7 @@ lets_go slots id view connected one holds shows there left rung s ruled homes at
 pub may_unlock : (slots id : ℕ) (me : Knows) → slots ≡ 1 → MayLeave me
     → Allows Ruled slots id me 0 (λ _. 0) (λ _ new. new ≡ (free_view me.0, table.rest me.1))
 may_unlock slots id me one may =
-    subst (λ (slots_of : List (ℕ × Connected)).
+    subst (λ (slots_of : List (ℕ × Carried)).
     Allows Ruled slots id (me.0, slots_of) 0 (λ _. 0) (λ _ new. new ≡ (free_view me.0, table.rest slots_of)))
     (sym may.lock.slot)
-    (lets_go slots id me.0 (connected_in me.1) one may.lock.holds may.shows may.lock.seat.there may.left may.rung)
+    (lets_go slots id me.0 (carried_in me.1) one may.lock.holds may.shows may.lock.seat.there may.left may.rung)

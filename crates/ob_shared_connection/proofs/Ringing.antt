@@ -9,12 +9,12 @@ use lib.ListN.{get_elem?}
 use Rattle.atomic_table.specs.Table.{Allows, keeps}
 use Rattle.atomic_table.specs.declared.shared.Seat.{Seat}
 use Rattle.atomic_table.proofs.Lists.{at_set}
-use Rattle.ob_connection.specs.Connected.{Connected}
 use Rattle.ob_shared_connection.specs.Bells.{awaited, bell_word, is_silent, silent, silenced}
 use Rattle.ob_shared_connection.specs.Ruled.{AreCounted, IsShown, IsVacant, Ruled, hearing_view}
 use Rattle.ob_shared_connection.specs.Steps.{Awaits, HasLock, Hears, Knows}
 use Rattle.ob_shared_connection.specs.Tables.{IsSeatOf, table_of}
 use Rattle.ob_shared_connection.specs.declared.bell.Waiter.{Waiter}
+use Rattle.ob_shared_connection.specs.declared.carried.Carried.{Carried}
 use Rattle.ob_shared_connection.specs.declared.shared.Shared.{Shared}
 use Rattle.ob_shared_connection.specs.declared.view.Bells.{Bells}
 use Rattle.ob_shared_connection.specs.declared.view.View.{View}
@@ -134,7 +134,7 @@ module _ (slots id : ℕ) (me : Knows) (waiter : Waiter) (lock : HasLock me) whe
       ))
 
 -- what a step at a bell wants
-pub at_bell : (shared : Shared) (seat : Seat Connected View) (bell : Waiter) (word : ℕ) (next : ℕ → ℕ)
+pub at_bell : (shared : Shared) (seat : Seat Carried View) (bell : Waiter) (word : ℕ) (next : ℕ → ℕ)
     (told : ℕ → Knows → Type 0) → IsSeatOf shared seat → word ≡ bell_word bell → word < 8
     → Allows Ruled shared.table.shared.table_id.slots seat.id seat.me (bell_word bell) next told
     → (seat.table_id ≡ table_of shared) × (word < (table_of shared).words)

@@ -63,7 +63,7 @@ module _ (slots id : ℕ) (me : Knows) where
         free = λ free. (let before = ruled.free (sym unlocked ∙ free) in
             record {
               home = record {
-                connection = before.home.connection;
+                carried = before.home.carried;
                 here = before.home.here;
                 left = before.home.left;
                 all_shown = before.home.all_shown;

@@ -13,7 +13,7 @@ use Rattle.ob_types.specs.Packed.{packed}
 use Rattle.ob_types.specs.WaterMark.{Marks}
 use Rattle.ob_types.specs.declared.estimate.Estimate.{Estimate}
 use Rattle.ob_seq.proofs.Word.Marks.{word_at_start}
-use Rattle.ob_connection.specs.Connected.{Connected, StandsFor}
+use Rattle.ob_connection.specs.Connected.{StandsFor}
 use Rattle.ob_shared_connection.specs.Bells.{bell_word}
 use Rattle.ob_shared_connection.specs.Log.{commands_by}
 use Rattle.ob_shared_connection.specs.Ruled.{Fits, HasShare, IsShown, IsVacant, Past, Ruled, both_views, calls_with, count_if, first_view, handles_of, named_view, new_view, sharing_view, spent_view}
@@ -21,6 +21,7 @@ use Rattle.ob_shared_connection.specs.Steps.{Names}
 use Rattle.ob_shared_connection.specs.declared.bell.Waiter.{Waiter}
 use Rattle.ob_shared_connection.specs.declared.bell.Waiter.TheVariants.{Writer, Sender}
 use Rattle.ob_shared_connection.specs.declared.call.Call.{Call}
+use Rattle.ob_shared_connection.specs.declared.carried.Carried.{Carried}
 use Rattle.ob_shared_connection.specs.declared.view.View.{View}
 use Rattle.ob_shared_connection.proofs.Bells.{known_set, other_bell}
 use Rattle.ob_shared_connection.proofs.Shares.{shares_cut, shares_set, shares_taken}
@@ -30,7 +31,7 @@ use Rattle.ob_shared_connection.proofs.Views.{St, Removes, fits_alone, nobody_st
 -- a new seat may get its number, which is its own alone
 names_seat : (slots id : ℕ) (view : View) (expected : ℕ) → (s : St) → Ruled s
     → get_elem? s.views id ≡ some (new_view view) → get_or s.words 1 0 ≡ expected
-    → (w : View) × (a : Act Connected) × Valid s.homes [] a × Ruled (stepped s 1 (expected + 1) id [] w a)
+    → (w : View) × (a : Act Carried) × Valid s.homes [] a × Ruled (stepped s 1 (expected + 1) id [] w a)
     × Names expected (new_view view, []) (get_or s.words 1 0) (w, carried_after [] a)
 names_seat slots id view expected s ruled at found =
     let past = ruled.past in
@@ -89,7 +90,7 @@ pub may_name : (slots id : ℕ) (view : View) (expected : ℕ)
     (Names expected (new_view view, []))
 may_name slots id view expected s ruled homes at small =
     exchanged (get_or s.words 1 0) expected (expected + 1)
-    (λ word. (w : View) × (a : Act Connected) × Valid s.homes [] a × Ruled (stepped s 1 word id [] w a)
+    (λ word. (w : View) × (a : Act Carried) × Valid s.homes [] a × Ruled (stepped s 1 word id [] w a)
     × Names expected (new_view view, []) (get_or s.words 1 0) (w, carried_after [] a))
     (λ found. names_seat slots id view expected s ruled at found)
     (λ other. (
@@ -282,16 +283,16 @@ at_rest Writer = refl
 at_rest Sender = refl
 
 -- what holds at the start
-pub at_first : (about : Marks × Estimate) (connection : Connected)
-    → connection.unsent.settings ≡ record { marks = about.0; estimate = about.1 } → StandsFor connection []
-    → Ruled (opening (0 ∷ 1 ∷ 0 ∷ 0 ∷ 0 ∷ 0 ∷ 0 ∷ 0 ∷ []) (connection ∷ []) (first_view about))
-at_first about connection settings stands =
+pub at_first : (about : Marks × Estimate) (carried : Carried)
+    → carried.connection.unsent.settings ≡ record { marks = about.0; estimate = about.1 } → StandsFor carried.connection []
+    → Ruled (opening (0 ∷ 1 ∷ 0 ∷ 0 ∷ 0 ∷ 0 ∷ 0 ∷ 0 ∷ []) (carried ∷ []) (first_view about))
+at_first about carried settings stands =
     record {
       past = first_past about;
       words = refl;
       free = λ _. record {
         home = record {
-          connection = connection;
+          carried = carried;
           here = refl;
           left = record { settings_are = settings; stands = stands };
           all_shown = refl;

@@ -11,9 +11,10 @@ use Rattle.ob_shared_connection.specs.Calls.{IsCall, IsLock}
 use Rattle.ob_shared_connection.specs.Glances.{IsGlance, IsLegal, glance_after}
 use Rattle.ob_shared_connection.specs.Log.{calls_of, commands_by, commands_of}
 use Rattle.ob_shared_connection.specs.Ruled.{settings_of, view_with}
-use Rattle.ob_shared_connection.specs.Steps.{Holds, IsNamed, Knows, Locks, Reads, Rests, connected_in, handle_of, held_of}
+use Rattle.ob_shared_connection.specs.Steps.{Holds, IsNamed, Knows, Locks, Reads, Rests, carried_in, connected_in, handle_of, held_of}
 use Rattle.ob_shared_connection.specs.Values.{IsLeftBy}
 use Rattle.ob_shared_connection.specs.declared.call.Call.{Call}
+use Rattle.ob_shared_connection.specs.declared.carried.Carried.{Carried}
 use Rattle.ob_shared_connection.specs.declared.glance.Glance.{Glance}
 use Rattle.ob_shared_connection.specs.declared.view.View.{View}
 use Rattle.ob_shared_connection.proofs.Lists.{commands_by-append, commands_of-more, first_of_nothing, nothing_more, own_added}
@@ -39,7 +40,7 @@ module _ (old new : Knows) (named : IsNamed old.0) (locks : Locks old new) where
             ∙ ap (λ (view : View). commands_by view.caller view.seen) (sym locks.view);
       };
       holds = ap (λ (view : View). view.holds) locks.view;
-      slot = locks.slot ∙ ap (λ (slots : List (ℕ × Connected)). (0, connected_in new.1) ∷ slots) none;
+      slot = locks.slot ∙ ap (λ (slots : List (ℕ × Carried)). (0, carried_in new.1) ∷ slots) none;
     };
     left = seat_left;
     unheard_yet = ap (λ (view : View). view.bells) locks.view;
@@ -120,48 +121,49 @@ module _ (old : Knows) (found : ℕ) (new : Knows) (rests : Rests old) (reads : 
       glance_parts w t glance same_word same_total = λ i. glance_of (same_word i) (same_total i)
 
 -- what an accepted call leaves
-module _ (me : Knows) (commands : List Command) (before after : Connected) (holds : Holds me)
-    (had : me.1 ≡ (0, before) ∷ rest me.1) (goes : Continues before commands after) where
-  -- what the seat knows then
-  abbrev pub next : Knows
-  next = (view_with commands me.0, (0, after) ∷ rest me.1)
+module _ (me : Knows) (commands : List Command) (before after : Carried) (holds : Holds me)
+    (had : me.1 ≡ (0, before) ∷ rest me.1) (goes : Continues before.connection commands after.connection)
+  where
+    -- what the seat knows then
+    abbrev pub next : Knows
+    next = (view_with commands me.0, (0, after) ∷ rest me.1)
 
-  was : connected_in me.1 ≡ before
-  was = ap connected_in had
+    was : carried_in me.1 ≡ before
+    was = ap carried_in had
 
-  left_next : IsLeftBy (settings_of me.0) (me.0.seen ++ calls_of me.0.caller commands) after
-  left_next = record {
-    settings_are = goes.settings ∙ ap (λ (connected : Connected). connected.unsent.settings) (sym was)
-        ∙ holds.left.settings_are;
-    stands = subst (λ (history : List Command). StandsFor after history)
-        (sym (commands_of-more me.0.caller me.0.seen commands))
-        (goes.stands (commands_of me.0.seen)
-        (subst (λ (connected : Connected). StandsFor connected (commands_of me.0.seen)) was holds.left.stands));
-  }
+    left_next : IsLeftBy (settings_of me.0) (me.0.seen ++ calls_of me.0.caller commands) after.connection
+    left_next = record {
+      settings_are = goes.settings ∙ ap (λ (carried : Carried). carried.connection.unsent.settings) (sym was)
+          ∙ holds.left.settings_are;
+      stands = subst (λ (history : List Command). StandsFor after.connection history)
+          (sym (commands_of-more me.0.caller me.0.seen commands))
+          (goes.stands (commands_of me.0.seen)
+          (subst (λ (carried : Carried). StandsFor carried.connection (commands_of me.0.seen)) was holds.left.stands));
+    }
 
-  -- it has the lock still
-  pub still_holds : Holds next
-  still_holds = record {
-    lock = record {
-      seat = record {
-        named = holds.lock.seat.named;
-        there = holds.lock.seat.there;
-        own = ap (λ (first : List Command). first ++ commands) holds.lock.seat.own
-            ∙ sym (own_added me.0.caller me.0.seen commands);
+    -- it has the lock still
+    pub still_holds : Holds next
+    still_holds = record {
+      lock = record {
+        seat = record {
+          named = holds.lock.seat.named;
+          there = holds.lock.seat.there;
+          own = ap (λ (first : List Command). first ++ commands) holds.lock.seat.own
+              ∙ sym (own_added me.0.caller me.0.seen commands);
+        };
+        holds = holds.lock.holds;
+        slot = ap (λ (slots : List (ℕ × Carried)). (0, after) ∷ rest slots) holds.lock.slot;
       };
-      holds = holds.lock.holds;
-      slot = ap (λ (slots : List (ℕ × Connected)). (0, after) ∷ rest slots) holds.lock.slot;
-    };
-    left = left_next;
-    unheard_yet = holds.unheard_yet;
-  }
+      left = left_next;
+      unheard_yet = holds.unheard_yet;
+    }
 
-  -- and the call is as contracts say it
-  pub is_call : {A E : Type 0} (Does : Connected → Result A E → Connected → Type 0) (table : TableId) (answer : A)
-      → Does before (Ok answer) after → IsCall Does commands (held_of table me) (Ok answer) (held_of table next)
-  is_call Does table answer does = record {
-    does = subst (λ (connected : Connected). Does connected (Ok answer) after) (sym was) does;
-    listed = refl;
-    refused = tt;
-    left = left_next;
-  }
+    -- and the call is as contracts say it
+    pub is_call : {A E : Type 0} (Does : Connected → Result A E → Connected → Type 0) (table : TableId) (answer : A)
+        → Does before.connection (Ok answer) after.connection → IsCall Does commands (held_of table me) (Ok answer) (held_of table next)
+    is_call Does table answer does = record {
+      does = subst (λ (carried : Carried). Does carried.connection (Ok answer) after.connection) (sym was) does;
+      listed = refl;
+      refused = tt;
+      left = left_next;
+    }

@@ -8,7 +8,6 @@ use native.Mathlib.Decide.{ℕ_discrete}
 use lib.ListN.{get_elem?}
 use Rattle.atomic_table.specs.Table.{State}
 use Rattle.atomic_table.proofs.Lists.{at_set, set_again, set_else, set_here}
-use Rattle.ob_connection.specs.Connected.{Connected}
 use Rattle.ob_shared_connection.specs.Bells.{bell_word}
 use Rattle.ob_shared_connection.specs.Log.{IsBeginning}
 use Rattle.ob_shared_connection.specs.Removals.{leaves_flushed}
@@ -16,11 +15,12 @@ use Rattle.ob_shared_connection.specs.Ruled.{AllFit, AreCounted, Fits, IsNobodys
 use Rattle.ob_shared_connection.specs.Steps.{Knows}
 use Rattle.ob_shared_connection.specs.declared.bell.Waiter.{Waiter}
 use Rattle.ob_shared_connection.specs.declared.call.Call.{Call}
+use Rattle.ob_shared_connection.specs.declared.carried.Carried.{Carried}
 use Rattle.ob_shared_connection.specs.declared.view.View.{View}
 use Rattle.ob_shared_connection.proofs.Lists.{at_below, is_false, sum_set}
 
 abbrev pub St : Type 0
-St = State Connected View
+St = State Carried View
 
 abbrev pub Removes : Call → Type 0
 Removes call = leaves_flushed call.command ≡ true

@@ -9,7 +9,6 @@ use Rattle.ob_types.specs.WaterMark.{Marks}
 use Rattle.ob_types.specs.declared.command.Command.{Command}
 use Rattle.ob_types.specs.declared.estimate.Estimate.{Estimate}
 use Rattle.ob_seq.specs.Rows.{Settings}
-use Rattle.ob_connection.specs.Connected.{Connected}
 use Rattle.ob_shared_connection.specs.Bells.{bell_word, is_silent, unheard}
 use Rattle.ob_shared_connection.specs.Glances.{IsLegal, glance_after, packed_glance}
 use Rattle.ob_shared_connection.specs.Log.{IsBeginning, calls_of, commands_by, commands_of}
@@ -19,6 +18,7 @@ use Rattle.ob_shared_connection.specs.Values.{IsLeftBy}
 use Rattle.ob_shared_connection.specs.Waiting.{is_due, moment_after}
 use Rattle.ob_shared_connection.specs.declared.bell.Waiter.{Waiter}
 use Rattle.ob_shared_connection.specs.declared.call.Call.{Call}
+use Rattle.ob_shared_connection.specs.declared.carried.Carried.{Carried}
 use Rattle.ob_shared_connection.specs.declared.view.Bells.{Bells}
 use Rattle.ob_shared_connection.specs.declared.view.View.{View}
 
@@ -186,14 +186,14 @@ abbrev pub IsNobodys : List View → Type 0
 IsNobodys views = (seat : ℕ) (view : View) → get_elem? views seat ≡ some view → view.holds ≡ false
 
 -- the connection is at home, and is what the calls leave; the glance after all of them is published
-pub record AtHome (past : Past) (homes : List (Option Connected)) : Type 0 where
-  pub connection : Connected
-  pub here : homes ≡ some connection ∷ []
-  pub left : IsLeftBy past.settings past.log connection
+pub record AtHome (past : Past) (homes : List (Option Carried)) : Type 0 where
+  pub carried : Carried
+  pub here : homes ≡ some carried ∷ []
+  pub left : IsLeftBy past.settings past.log carried.connection
   pub all_shown : past.shown ≡ past.log
 
 -- nobody has the lock, and the connection is at home
-pub record IsFree (past : Past) (homes : List (Option Connected)) (views : List View) : Type 0 where
+pub record IsFree (past : Past) (homes : List (Option Carried)) (views : List View) : Type 0 where
   pub home : AtHome past homes
   pub nobody : IsNobodys views
 
@@ -243,7 +243,7 @@ IsVacant past number = number ≡ 1 → past.sender ≡ none
 -- there is one list of calls, which the views of all seats fit; while the first word is 0 the connection is at home, and
 -- else a handle has it; the second counts the handles, the third is published, the two after it are bells, and the next one
 -- tells that nobody sends
-pub record Ruled (state : State Connected View) : Type 0 where
+pub record Ruled (state : State Carried View) : Type 0 where
   pub past : Past
   pub words : length state.words ≡ 8
   pub free : slice_index state.words 0 ≡ 0 → IsFree past state.homes state.views

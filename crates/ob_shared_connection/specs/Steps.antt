@@ -14,12 +14,13 @@ use Rattle.ob_shared_connection.specs.Values.{HandleValue, Held, IsLeftBy}
 use Rattle.ob_shared_connection.specs.Waiting.{is_due, moment_after}
 use Rattle.ob_shared_connection.specs.declared.bell.Waiter.{Waiter}
 use Rattle.ob_shared_connection.specs.declared.call.Call.{Call}
+use Rattle.ob_shared_connection.specs.declared.carried.Carried.{Carried}
 use Rattle.ob_shared_connection.specs.declared.ended.Ended.{Ended}
 use Rattle.ob_shared_connection.specs.declared.view.View.{View}
 
 -- what a seat knows, and the slots that it has
 abbrev pub Knows : Type 0
-Knows = Me Connected View
+Knows = Me Carried View
 
 -- a connection that is none
 abbrev pub no_connection : Connected
@@ -28,10 +29,14 @@ no_connection = record {
   gone = 0;
 }
 
+-- what a seat has taken out of the slot
+abbrev pub carried_in : List (ℕ × Carried) → Carried
+carried_in [] = record { connection = no_connection }
+carried_in (slot ∷ slots) = slot.1
+
 -- the connection that a seat has
-abbrev pub connected_in : List (ℕ × Connected) → Connected
-connected_in [] = no_connection
-connected_in (slot ∷ slots) = slot.1
+abbrev pub connected_in : List (ℕ × Carried) → Connected
+connected_in slots = (carried_in slots).connection
 
 -- what contracts see of a seat
 abbrev pub handle_of : TableId → View → HandleValue
@@ -66,7 +71,7 @@ pub record Rests (me : Knows) : Type 0 where
 pub record HasLock (me : Knows) : Type 0 where
   pub seat : IsNamed me.0
   pub holds : me.0.holds ≡ true
-  pub slot : me.1 ≡ (0, connected_in me.1) ∷ []
+  pub slot : me.1 ≡ (0, carried_in me.1) ∷ []
 
 -- and the connection is what all calls leave, and of the bells nothing is known yet
 pub record Holds (me : Knows) : Type 0 where
@@ -108,7 +113,7 @@ pub record Hushes (waiter : Waiter) (due owed : Bool) (old new : Knows) : Type 0
 pub record Locks (old new : Knows) : Type 0 where
   pub between : List Call
   pub view : new.0 ≡ held_view (old.0.seen ++ between) old.0
-  pub slot : new.1 ≡ (0, connected_in new.1) ∷ old.1
+  pub slot : new.1 ≡ (0, carried_in new.1) ∷ old.1
   pub own : old.0.named ≡ true → old.0.spent ≡ false → old.0.mine ≡ commands_by old.0.caller (old.0.seen ++ between)
   pub untouched : old.0.sends ≡ true → NoneRemoves between
   pub left : old.0.spent ≡ false → IsLeftBy (settings_of old.0) (old.0.seen ++ between) (connected_in new.1)

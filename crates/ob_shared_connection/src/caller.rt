@@ -234,8 +234,8 @@ impl Caller {
         ensures call { IsCall (A.does act) (A.commands act) (caller_held self.old) result (caller_held self.new) }
     {
         let Caller { shared, seat } = self;
-        let connection = seat.slot_mut(&shared.table.shared, 0);
-        let answer = act.act(connection)?;
+        let carried = seat.slot_mut(&shared.table.shared, 0);
+        let answer = carried.act(act)?;
         shared.list::<C>(seat);
         Ok(answer)
     }
@@ -248,8 +248,8 @@ impl Caller {
         ensures look { IsLook (A.shows ask) result (caller_held self.old) (caller_held self.new) }
     {
         let shared = &self.shared;
-        let connection = self.seat.slot_mut(&shared.table.shared, 0);
-        ask.ask(connection)
+        let carried = self.seat.slot_mut(&shared.table.shared, 0);
+        ask.ask(&carried.connection)
     }
 
     /// One call, which takes the lock and lets it go.

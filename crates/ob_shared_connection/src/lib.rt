@@ -7,6 +7,7 @@ mod ask;
 mod bell;
 mod call;
 mod caller;
+mod carried;
 pub mod commands;
 mod ended;
 mod glance;

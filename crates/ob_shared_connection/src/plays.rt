@@ -6,9 +6,9 @@ ghost use Rattle.ob_shared_connection.specs.Steps.{Appoints, Awaits, Finds, Hear
 ghost use Rattle.ob_shared_connection.specs.Ruled.{free_view, hearing_view, resigned_view, shown_view, view_with};
 
 use crate::bell::Bell;
+use crate::carried::Carried;
 use crate::view::View;
 use atomic_table::{Join, Play, Split};
-use ob_connection::Connection;
 use std::marker::{Brand, PhantomData};
 
 /// Commands that were accepted. A step is told none when the program runs, so they come as a ghost member, which the
@@ -29,14 +29,14 @@ impl Accepted for Brand {
 /// A try to take the lock.
 pub struct Lock;
 
-impl Play<Connection, View> for Lock {
+impl Play<Carried, View> for Lock {
     ghost then = { λ _ old found new. Tries old found new };
 }
 
 /// The lock is let go.
 pub struct Unlock;
 
-impl Play<Connection, View> for Unlock {
+impl Play<Carried, View> for Unlock {
     ghost then = { λ _ old _ new. new ≡ (free_view old.0, rest old.1) };
 }
 
@@ -45,21 +45,21 @@ pub struct List<C> {
     commands: PhantomData<C>,
 }
 
-impl<C: Accepted> Play<Connection, View> for List<C> {
+impl<C: Accepted> Play<Carried, View> for List<C> {
     ghost then = { λ _ old _ new. new ≡ (view_with C.commands old.0, old.1) };
 }
 
 /// A new seat gets its number.
 pub struct Name;
 
-impl Play<Connection, View> for Name {
+impl Play<Carried, View> for Name {
     ghost then = { λ step old found new. Names step.first old found new };
 }
 
 /// A read of what is published.
 pub struct Read;
 
-impl Play<Connection, View> for Read {
+impl Play<Carried, View> for Read {
     ghost then = { λ _ old found new. Reads old found new };
 }
 
@@ -79,14 +79,14 @@ pub struct Find<N> {
     number: PhantomData<N>,
 }
 
-impl<N: Published> Play<Connection, View> for Find<N> {
+impl<N: Published> Play<Carried, View> for Find<N> {
     ghost then = { λ _ old found new. Finds N.number old found new };
 }
 
 /// A number is published.
 pub struct Publish;
 
-impl Play<Connection, View> for Publish {
+impl Play<Carried, View> for Publish {
     ghost then = { λ _ old _ new. new ≡ (shown_view old.0, old.1) };
 }
 
@@ -95,7 +95,7 @@ pub struct Hear<B> {
     bell: PhantomData<B>,
 }
 
-impl<B: Bell> Play<Connection, View> for Hear<B> {
+impl<B: Bell> Play<Carried, View> for Hear<B> {
     ghost then = { λ _ old found new. Hears B.waiter old found new };
 }
 
@@ -104,7 +104,7 @@ pub struct Silence<B> {
     bell: PhantomData<B>,
 }
 
-impl<B: Bell> Play<Connection, View> for Silence<B> {
+impl<B: Bell> Play<Carried, View> for Silence<B> {
     ghost then = { λ _ old _ new. new ≡ (hearing_view (silenced B.waiter old.0.bells) old.0, old.1) };
 }
 
@@ -113,21 +113,21 @@ pub struct Await<B> {
     bell: PhantomData<B>,
 }
 
-impl<B: Bell> Play<Connection, View> for Await<B> {
+impl<B: Bell> Play<Carried, View> for Await<B> {
     ghost then = { λ _ old found new. Awaits B.waiter old found new };
 }
 
 /// The seat that has the lock is to send, if nobody does.
 pub struct Appoint;
 
-impl Play<Connection, View> for Appoint {
+impl Play<Carried, View> for Appoint {
     ghost then = { λ _ old found new. Appoints old found new };
 }
 
 /// The seat that sends does not any more.
 pub struct Resign;
 
-impl Play<Connection, View> for Resign {
+impl Play<Carried, View> for Resign {
     ghost then = { λ _ old _ new. new ≡ (resigned_view old.0, old.1) };
 }
 

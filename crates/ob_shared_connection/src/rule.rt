@@ -1,6 +1,6 @@
+use crate::carried::Carried;
 use crate::view::View;
 use atomic_table::TableRule;
-use ob_connection::Connection;
 use ob_types::{Estimate, WaterMark};
 
 /// How many words the table has.
@@ -48,7 +48,7 @@ pub const WAITED: u64 = 2;
 /// What holds between any two steps.
 pub struct Rule;
 
-impl TableRule<Connection, View, (WaterMark, Estimate)> for Rule {
+impl TableRule<Carried, View, (WaterMark, Estimate)> for Rule {
     ghost use Rattle.ob_shared_connection.specs.Ruled.{Ruled, first_view};
 
     ghost holds = { λ _. Ruled };

@@ -1,6 +1,7 @@
 ghost use Rattle.std.specs.Prelude.{◌≡◌, ◌≤◌, ℕ, false, true, [], IfOk, OnOk, IsOkUnless};
 
 use crate::bell::{Bell, Work, Writers};
+use crate::carried::Carried;
 use crate::ended::Ended;
 use crate::handle::TooManyHandles;
 use crate::owed::Owed;
@@ -26,7 +27,7 @@ use std::thread::{Parker, yield_now};
 use std::time::Duration;
 
 /// What one handle steps with. It has no bytes.
-pub type Seat = atomic_table::Seat<Connection, View>;
+pub type Seat = atomic_table::Seat<Carried, View>;
 
 /// How often a thread that finds the lock taken pauses and tries again, before it lets others run.
 const PAUSES: u32 = 6;
@@ -47,7 +48,7 @@ const LOOKS: u32 = 40;
 /// The table that all handles of a connection share: the lock is one of its words, and the connection lies in its slot.
 #[derive(Drop)]
 pub struct Shared {
-    pub table: Table<Connection, View, (WaterMark, Estimate), Rule, Global>,
+    pub table: Table<Carried, View, (WaterMark, Estimate), Rule, Global>,
     ghost words: { table.shared.table_id.words ≡ 8 },
     ghost slots: { table.shared.table_id.slots ≡ 1 },
 }
@@ -75,7 +76,9 @@ impl Shared {
         ensures no_memory { IsOkUnless result Refusal.NoMemory }
     {
         let mut slots = Vec::new(alloc);
-        slots.push(Connection::new(alloc, marks, estimate))?;
+        slots.push(Carried {
+            connection: Connection::new(alloc, marks, estimate),
+        })?;
         let words: [u64; WORDS] = [FREE, 1, 0, 0, 0, 0, 0, 0];
         match Table::new(alloc, &words, slots, &(marks, estimate)) {
             Ok((table, seat)) => Ok((Shared { table }, seat)),
@@ -459,8 +462,9 @@ impl Shared {
         let mut closed = table.close_with(seat);
         let is_left = closed.word(LOCK) == FREE;
         let handles = closed.word(GIVEN);
-        let connection = closed.take(0);
+        let carried = closed.take(0);
         closed.free();
+        let Carried { connection } = carried;
         Ended {
             connection,
             handles,

@@ -4,28 +4,28 @@ use Rattle.atomic_table.specs.Table.{rest}
 use Rattle.ob_types.specs.declared.command.Command.{Command}
 use Rattle.ob_shared_connection.specs.Calls.{IsCall}
 use Rattle.ob_shared_connection.specs.Ruled.{view_with}
-use Rattle.ob_shared_connection.specs.Steps.{Holds, Knows, connected_in, held_of}
+use Rattle.ob_shared_connection.specs.Steps.{Holds, Knows, carried_in, held_of}
 use Rattle.ob_shared_connection.specs.Tables.{table_of}
 use Rattle.ob_shared_connection.proofs.Told.{is_call, next, still_holds}
 use Rattle.ob_shared_connection.proofs.caller.Caller.act_for.Goals as goal
 
-pub slot_mut-connection-requires : goal.slot_mut-connection-requires
-slot_mut-connection-requires g c =
+pub slot_mut-carried-requires : goal.slot_mut-carried-requires
+slot_mut-carried-requires g c =
     let seat = c.args.self.now.seat in
     let slot = c.requires.holds.lock.slot in (
       c.args.self.now.seat_of ∙ ap table_of (sym c.deref.ensures),
-      (connected_in seat.me.1, slot ∙ ap (λ slots. (0, connected_in seat.me.1) ∷ rest slots) (sym slot)),
+      (carried_in seat.me.1, slot ∙ ap (λ slots. (0, carried_in seat.me.1) ∷ rest slots) (sym slot)),
     )
 
 pub returns-clause-holds : goal.returns-clause-holds
 returns-clause-holds g c =
     let me = c.args.self.now.seat.me in
     let commands = g.A.Act.commands c.args.act in
-    let before = c.slot_mut-connection.result.now in
-    let after = c.act.new.connection in
+    let before = c.slot_mut-carried.result.now in
+    let after = c.act.new.self in
     subst Holds (sym (c.list.ensures.me
     ∙ ap (λ (more : List Command). (view_with more me.0, (0, after) ∷ rest me.1)) c.requires.commands))
-    (still_holds me commands before after c.requires.holds c.slot_mut-connection.ensures.value
+    (still_holds me commands before after c.requires.holds c.slot_mut-carried.ensures.value
     c.in_ok-answer.ensures.goes_on)
 
 pub returns-clause-call : goal.returns-clause-call
@@ -34,17 +34,17 @@ returns-clause-call g c =
     let table = c.args.self.now.seat.table_id in
     let commands = g.A.Act.commands c.args.act in
     let Does = g.A.Act.does c.args.act in
-    let before = c.slot_mut-connection.result.now in
-    let after = c.act.new.connection in
+    let before = c.slot_mut-carried.result.now in
+    let after = c.act.new.self in
     let told = c.in_ok-answer.ensures in
-    let same : next me commands before after c.requires.holds c.slot_mut-connection.ensures.value told.goes_on
+    let same : next me commands before after c.requires.holds c.slot_mut-carried.ensures.value told.goes_on
     ≡ c.list.new.seat.me = sym (c.list.ensures.me
     ∙ ap (λ (more : List Command). (view_with more me.0, (0, after) ∷ rest me.1)) c.requires.commands) in
     subst (λ (knows : Knows).
     IsCall Does commands (held_of table me) (Ok c.in_ok-answer.answer) (held_of c.list.new.seat.table_id knows)) same
     (subst (λ (name : TableId).
     IsCall Does commands (held_of table me) (Ok c.in_ok-answer.answer)
-    (held_of name (next me commands before after c.requires.holds c.slot_mut-connection.ensures.value told.goes_on)))
+    (held_of name (next me commands before after c.requires.holds c.slot_mut-carried.ensures.value told.goes_on)))
     (sym c.list.ensures.seat.table)
-    (is_call me commands before after c.requires.holds c.slot_mut-connection.ensures.value told.goes_on Does table
+    (is_call me commands before after c.requires.holds c.slot_mut-carried.ensures.value told.goes_on Does table
     c.in_ok-answer.answer told.does))

@@ -6,5 +6,5 @@ pub returns : goal.returns
 returns c =
     let closed = c.close_with-closed.result in
     is_end c.args.seat.id c.args.seat.me.0 (slots_items closed.words) (slots_items closed.slots) c.word-is_left.result
-    c.word-handles.result c.take-connection.result c.requires.rests.seat c.requires.rests.free c.close_with-closed.ensures.values.2
-    c.word-is_left.ensures c.word-handles.ensures c.take-connection.ensures.value
+    c.word-handles.result c.take-carried.result c.requires.rests.seat c.requires.rests.free c.close_with-closed.ensures.values.2
+    c.word-is_left.ensures c.word-handles.ensures c.take-carried.ensures.value
