@@ -41,6 +41,13 @@ impl Cover {
         }
     }
 
+    /// The budget that its seat is of.
+    pub fn budget(&self) -> &Arc<Budget>
+        ensures { arc_value result.now ≡ self.now.seat.budget }
+    {
+        &self.budget
+    }
+
     /// The bytes that the seat holds.
     pub fn held(&self) -> u64
         ensures { result ≡ self.now.seat.account.held }
