@@ -28,7 +28,7 @@ bells_apart Writer Sender apart = λ e. omega arith
 bells_apart Sender Writer apart = λ e. omega arith
 bells_apart Sender Sender apart = absurd (apart refl)
 
-pub bell_within : (waiter : Waiter) → bell_word waiter < 8
+pub bell_within : (waiter : Waiter) → bell_word waiter < 6
 bell_within Writer = omega arith
 bell_within Sender = omega arith
 

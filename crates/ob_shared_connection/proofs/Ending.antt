@@ -10,9 +10,10 @@ use Rattle.atomic_table.specs.Seated.{TableId}
 use Rattle.atomic_table.specs.Table.{Final, Seen}
 use Rattle.atomic_table.proofs.Lists.{set_else}
 use Rattle.ob_seq.specs.Rows.{Settings}
+use Rattle.ob_shared_connection.specs.Covers.{IsCovered, Within, cover_of}
 use Rattle.ob_shared_connection.specs.Handles.{IsEnd}
 use Rattle.ob_shared_connection.specs.Log.{commands_by}
-use Rattle.ob_shared_connection.specs.Ruled.{AreShared, IsTaken, Ruled, calls_with, count_if, handles_of, spent_view}
+use Rattle.ob_shared_connection.specs.Ruled.{AreShared, AtHome, IsTaken, Ruled, calls_with, count_if, handles_of, spent_view}
 use Rattle.ob_shared_connection.specs.Shares.{IsWhole}
 use Rattle.ob_shared_connection.specs.Steps.{IsNamed, handle_of}
 use Rattle.ob_shared_connection.specs.Values.{IsLeftBy}
@@ -91,7 +92,7 @@ whole_is_free views id view at shares whole free taken =
 pub is_end : (id : ℕ) (view : View) (words : List ℕ) (slots : List Carried) (lock handles : ℕ) (carried : Carried)
     → IsNamed view → view.holds ≡ false → Final (Seen Ruled id view) words slots → get_elem? words 0 ≡ some lock
     → get_elem? words 1 ≡ some handles → get_elem? slots 0 ≡ some carried → (table : TableId)
-    → IsEnd (handle_of table view) (record { connection = carried.connection; handles = handles; is_left = eqb lock 0 })
+    → IsEnd (handle_of table view) (record { connection = carried.connection; cover = cover_of carried; handles = handles; is_left = eqb lock 0 })
 is_end id view words slots lock handles carried named rests final lock_at handles_at slot_at table =
     let s = final.0 in
     let ruled = final.1.0 in
@@ -102,16 +103,19 @@ is_end id view words slots lock handles carried named rests final lock_at handle
     (ap (λ (all : List ℕ). get_elem? all index) final.2 ∙ is) in
     let stands_for : handles_of view ≡ 1 + view.others =
     ap (λ (one : Bool). count_if one (1 + view.others)) named.named in
+    let is_last : (home : AtHome ruled.past s.homes) → home.carried ≡ carried = λ home.
+    some-injective home.carried carried
+    (sym (final.4 0 home.carried (ap (λ (homes : List (Option Carried)). get_elem? homes 0) home.here)) ∙ slot_at) in
     record {
       log = ruled.past.log;
       part = mine.part;
       own = mine.own named.there ∙ ap (λ (seat : ℕ). commands_by seat ruled.past.log) (sym (mine.numbered named.named));
       left = λ free. (let home = (ruled.free (word 0 lock lock_at ∙ eqb-true lock 0 free)).home in
-          let here = final.4 0 home.carried
-          (ap (λ (homes : List (Option Carried)). get_elem? homes 0) home.here) in
           subst (λ (settings : Settings). IsLeftBy settings ruled.past.log carried.connection) (sym (mine.opened named.there))
-          (subst (λ (last : Carried). IsLeftBy ruled.past.settings ruled.past.log last.connection)
-          (some-injective home.carried carried (sym here ∙ slot_at)) home.left));
+          (subst (λ (last : Carried). IsLeftBy ruled.past.settings ruled.past.log last.connection) (is_last home) home.left));
+      covered = λ free. (let home = (ruled.free (word 0 lock lock_at ∙ eqb-true lock 0 free)).home in
+          subst (λ (budget : Within). IsCovered budget carried.connection (cover_of carried)) (sym (mine.budgeted named.there))
+          (subst (λ (last : Carried). IsCovered ruled.past.budget last.connection (cover_of last)) (is_last home) home.covered));
       few = (let given = ruled.counts.given in
           let count = word 1 handles handles_at in
           let some = one_of_all s.views id view at in

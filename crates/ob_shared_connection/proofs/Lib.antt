@@ -1,12 +1,15 @@
+pub mod Accepting
 pub mod Bells
 pub mod Ending
 pub mod Flushing
 pub mod GivingUp
+pub mod Growing
 pub mod Lists
 pub mod Locking
 pub mod Publishing
 pub mod Ringing
 pub mod Roles
+pub mod Room
 pub mod Seating
 pub mod Sending
 pub mod Shares

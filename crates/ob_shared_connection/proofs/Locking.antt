@@ -13,6 +13,7 @@ use Rattle.atomic_table.specs.Table as table
 use Rattle.atomic_table.proofs.Lists.{at_set, exchanged, set_here}
 use Rattle.ob_seq.specs.Rows.{Settings}
 use Rattle.ob_shared_connection.specs.Bells.{bell_word, is_silent}
+use Rattle.ob_shared_connection.specs.Covers.{IsCovered, Within, cover_of}
 use Rattle.ob_shared_connection.specs.Log.{IsBeginning, commands_by, commands_of}
 use Rattle.ob_shared_connection.specs.Ruled.{AreCounted, Fits, IsShown, IsVacant, Ruled, free_view, held_view, settings_of}
 use Rattle.ob_shared_connection.specs.Steps.{IsRung, MayLeave, Knows, Tries, carried_in}
@@ -45,6 +46,7 @@ module _ (slots id : ℕ) (me : Knows) where
       let then_past = record past { holder = id } in
       let fresh : Fits then_past id new = record {
         opened = mine.opened;
+        budgeted = mine.budgeted;
         part = record { rest = []; whole = append-nil (me.0.seen ++ between) ∙ whole };
         told = mine.told;
         numbered = mine.numbered;
@@ -59,6 +61,7 @@ module _ (slots id : ℕ) (me : Knows) where
       let still : (seat : ℕ) (view : View) → seat ≢ id → get_elem? s.views seat ≡ some view → Fits past seat view
       → Fits then_past seat view = λ seat view apart there old. (let has_not = nobody seat view there in record {
         opened = old.opened;
+        budgeted = old.budgeted;
         part = old.part;
         told = old.told;
         numbered = old.numbered;
@@ -114,6 +117,8 @@ module _ (slots id : ℕ) (me : Knows) where
             left = λ there. subst (λ (log : List Call). IsLeftBy (settings_of me.0) log home.carried.connection) (sym whole)
                 (subst (λ (settings : Settings). IsLeftBy settings past.log home.carried.connection) (sym (mine.opened there))
                 home.left);
+            covered = λ there. subst (λ (budget : Within). IsCovered budget home.carried.connection (cover_of home.carried))
+                (sym (mine.budgeted there)) home.covered;
           };
           missed = λ some_one. absurd (some_one free);
         },
@@ -155,9 +160,10 @@ module _ (slots id : ℕ) (me : Knows) where
 
 -- a seat that has the lock may let it go, once all is published
 lets_go : (slots id : ℕ) (view : View) (carried : Carried) → slots ≡ 1 → view.holds ≡ true → view.shows ≡ true
-    → view.spent ≡ false → IsLeftBy (settings_of view) view.seen carried.connection → ((waiter : Waiter) → IsRung waiter view)
+    → view.spent ≡ false → IsLeftBy (settings_of view) view.seen carried.connection
+    → IsCovered view.budget carried.connection (cover_of carried) → ((waiter : Waiter) → IsRung waiter view)
     → Allows Ruled slots id (view, (0, carried) ∷ []) 0 (λ _. 0) (λ _ new. new ≡ (free_view view, []))
-lets_go slots id view carried one holds shows there left rung s ruled homes at small =
+lets_go slots id view carried one holds shows there left covered rung s ruled homes at small =
     let past = ruled.past in
     let mine = ruled.fits id view at in
     let words = ruled.words in
@@ -165,6 +171,7 @@ lets_go slots id view carried one holds shows there left rung s ruled homes at s
     let all_shown = mine.current holds shows in
     let fresh : Fits past id new = record {
       opened = mine.opened;
+      budgeted = mine.budgeted;
       part = mine.part;
       told = mine.told;
       numbered = mine.numbered;
@@ -188,6 +195,7 @@ lets_go slots id view carried one holds shows there left rung s ruled homes at s
             here = one_set s.homes (some carried) (homes ∙ one);
             left = subst (λ (log : List Call). IsLeftBy past.settings log carried.connection) (mine.whole holds)
                 (subst (λ (settings : Settings). IsLeftBy settings view.seen carried.connection) (mine.opened there) left);
+            covered = subst (λ (budget : Within). IsCovered budget carried.connection (cover_of carried)) (mine.budgeted there) covered;
             all_shown = all_shown;
           };
           nobody = nobody_else past s.views id new ruled.fits (mine.one holds) refl;
@@ -219,4 +227,4 @@ may_unlock slots id me one may =
     subst (λ (slots_of : List (ℕ × Carried)).
     Allows Ruled slots id (me.0, slots_of) 0 (λ _. 0) (λ _ new. new ≡ (free_view me.0, table.rest slots_of)))
     (sym may.lock.slot)
-    (lets_go slots id me.0 (carried_in me.1) one may.lock.holds may.shows may.lock.seat.there may.left may.rung)
+    (lets_go slots id me.0 (carried_in me.1) one may.lock.holds may.shows may.lock.seat.there may.left may.covered may.rung)

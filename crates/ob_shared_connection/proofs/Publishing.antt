@@ -45,6 +45,7 @@ module _ (slots id : ℕ) (me : Knows) where
       ap (λ (first : List Call). first ++ begins.rest) seen.whole ∙ begins.whole in
       let fresh : Fits past id new = record {
         opened = mine.opened;
+        budgeted = mine.budgeted;
         part = record { rest = begins.rest; whole = whole };
         told = record { rest = past.shown; whole = refl };
         numbered = mine.numbered;
@@ -119,6 +120,7 @@ may_list slots id me commands lock may s ruled homes at small =
     } in
     let fresh : Fits then_past id new = record {
       opened = mine.opened;
+      budgeted = mine.budgeted;
       part = record { rest = []; whole = append-nil new.seen ∙ seen };
       told = mine.told;
       numbered = mine.numbered;
@@ -134,6 +136,7 @@ may_list slots id me commands lock may s ruled homes at small =
     let still : (seat : ℕ) (view : View) → seat ≢ id → get_elem? s.views seat ≡ some view → Fits past seat view
     → Fits then_past seat view = λ seat view apart there old. record {
       opened = old.opened;
+      budgeted = old.budgeted;
       part = longer view.seen old.part;
       told = old.told;
       numbered = old.numbered;
@@ -200,6 +203,7 @@ fits_shown : (past : Past) (seat : ℕ) (old new : View) → new ≡ record old 
 fits_shown past seat old new same begins fits =
     subst (λ (view : View). Fits (record past { shown = past.log }) seat view) (sym same) (record {
       opened = fits.opened;
+      budgeted = fits.budgeted;
       part = fits.part;
       told = begins_further old.told past.shown past.log fits.told begins;
       numbered = fits.numbered;
@@ -214,7 +218,7 @@ fits_shown past seat old new same begins fits =
 
 -- the glance after all calls is published
 publishes : (id : ℕ) (me : Knows) (number : ℕ) → HasLock me → IsNow me.0 number → (s : St) (ruled : Ruled s)
-    → get_elem? s.views id ≡ some me.0 → (words : List ℕ) → length words ≡ 8
+    → get_elem? s.views id ≡ some me.0 → (words : List ℕ) → length words ≡ 6
     → get_or words 0 0 ≡ get_or s.words 0 0 → get_or words 1 0 ≡ get_or s.words 1 0 → get_or words 2 0 ≡ number
     → ((waiter : Waiter) → get_or words (bell_word waiter) 0 ≡ get_or s.words (bell_word waiter) 0)
     → get_or words 5 0 ≡ get_or s.words 5 0

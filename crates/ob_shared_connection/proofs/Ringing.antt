@@ -135,7 +135,7 @@ module _ (slots id : ℕ) (me : Knows) (waiter : Waiter) (lock : HasLock me) whe
 
 -- what a step at a bell wants
 pub at_bell : (shared : Shared) (seat : Seat Carried View) (bell : Waiter) (word : ℕ) (next : ℕ → ℕ)
-    (told : ℕ → Knows → Type 0) → IsSeatOf shared seat → word ≡ bell_word bell → word < 8
+    (told : ℕ → Knows → Type 0) → IsSeatOf shared seat → word ≡ bell_word bell → word < 6
     → Allows Ruled shared.table.shared.table_id.slots seat.id seat.me (bell_word bell) next told
     → (seat.table_id ≡ table_of shared) × (word < (table_of shared).words)
     × Allows Ruled shared.table.shared.table_id.slots seat.id seat.me word next told

@@ -27,6 +27,7 @@ others_fit : (past : Past) (sender : Option ℕ) (seat : ℕ) (view : View) → 
     → Fits past seat view → Fits (record past { sender = sender }) seat view
 others_fit past sender seat view sends fits = record {
   opened = fits.opened;
+  budgeted = fits.budgeted;
   part = fits.part;
   told = fits.told;
   numbered = fits.numbered;
@@ -66,6 +67,7 @@ module _ (slots id : ℕ) (me : Knows) where
                 carried = before.home.carried;
                 here = before.home.here;
                 left = before.home.left;
+                covered = before.home.covered;
                 all_shown = before.home.all_shown;
               };
               nobody = nobody_still s.views id new before.nobody (before.nobody id me.0 at);
@@ -106,6 +108,7 @@ module _ (slots id : ℕ) (me : Knows) where
       (sym ((ruled.fits seat view there).sender_is sends) ∙ ruled.role found)))
       (record {
         opened = mine.opened;
+        budgeted = mine.budgeted;
         part = record { rest = []; whole = append-nil me.0.seen ∙ whole };
         told = mine.told;
         numbered = mine.numbered;
@@ -156,6 +159,7 @@ module _ (slots id : ℕ) (me : Knows) where
             (sym ((ruled.fits seat view there).sender_is other) ∙ mine.sender_is sends))))
             (record {
               opened = mine.opened;
+              budgeted = mine.budgeted;
               part = mine.part;
               told = mine.told;
               numbered = mine.numbered;

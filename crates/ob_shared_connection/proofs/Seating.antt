@@ -10,18 +10,18 @@ use lib.ListN.{get_elem?}
 use Rattle.atomic_table.specs.Table.{Act, Allows, Splits, Joins, Valid, keeps, stepped, carried_after, opening}
 use Rattle.atomic_table.proofs.Lists.{at_longer, at_set, exchanged, set_else}
 use Rattle.ob_types.specs.Packed.{packed}
-use Rattle.ob_types.specs.WaterMark.{Marks}
-use Rattle.ob_types.specs.declared.estimate.Estimate.{Estimate}
 use Rattle.ob_seq.proofs.Word.Marks.{word_at_start}
 use Rattle.ob_connection.specs.Connected.{StandsFor}
 use Rattle.ob_shared_connection.specs.Bells.{bell_word}
+use Rattle.ob_shared_connection.specs.Covers.{IsCovered, cover_of}
 use Rattle.ob_shared_connection.specs.Log.{commands_by}
-use Rattle.ob_shared_connection.specs.Ruled.{Fits, HasShare, IsShown, IsVacant, Past, Ruled, both_views, calls_with, count_if, first_view, handles_of, named_view, new_view, sharing_view, spent_view}
+use Rattle.ob_shared_connection.specs.Ruled.{Fits, HasShare, IsShown, IsVacant, Past, Ruled, both_views, calls_with, count_if, first_view, handles_of, named_view, new_view, sharing_view, spent_view, within_of}
 use Rattle.ob_shared_connection.specs.Steps.{Names}
 use Rattle.ob_shared_connection.specs.declared.bell.Waiter.{Waiter}
 use Rattle.ob_shared_connection.specs.declared.bell.Waiter.TheVariants.{Writer, Sender}
 use Rattle.ob_shared_connection.specs.declared.call.Call.{Call}
 use Rattle.ob_shared_connection.specs.declared.carried.Carried.{Carried}
+use Rattle.ob_shared_connection.specs.declared.rule.Opened.{Opened}
 use Rattle.ob_shared_connection.specs.declared.view.View.{View}
 use Rattle.ob_shared_connection.proofs.Bells.{known_set, other_bell}
 use Rattle.ob_shared_connection.proofs.Shares.{shares_cut, shares_set, shares_taken}
@@ -117,6 +117,7 @@ may_cut id view there has_not s ruled at =
     let counts = counts_set past.log (get_or s.words 1 0) s.views id view left at refl refl ruled.counts in
     let fresh : Fits past count new = record {
       opened = λ _. mine.opened there;
+      budgeted = λ _. mine.budgeted there;
       part = mine.part;
       told = record { rest = past.shown; whole = refl };
       numbered = λ never. absurd (cc never);
@@ -181,6 +182,7 @@ may_take id view other theirs named there free other_named other_free s ruled at
     mine in
     let second : Fits past other spent_view = record {
       opened = λ never. absurd (cc never);
+      budgeted = λ never. absurd (cc never);
       part = record { rest = past.log; whole = refl };
       told = record { rest = past.shown; whole = refl };
       numbered = λ never. absurd (cc never);
@@ -240,9 +242,10 @@ may_take id view other theirs named there free other_named other_free s ruled at
     }
 
 -- what is behind a connection at the start
-abbrev first_past : Marks × Estimate → Past
+abbrev first_past : Opened → Past
 first_past about = record {
-  settings = record { marks = about.0; estimate = about.1 };
+  settings = record { marks = about.marks; estimate = about.estimate };
+  budget = within_of about;
   log = [];
   shown = [];
   holder = 0;
@@ -250,9 +253,10 @@ first_past about = record {
 }
 
 -- the first seat fits
-first_fits : (about : Marks × Estimate) → Fits (first_past about) 0 (first_view about)
+first_fits : (about : Opened) → Fits (first_past about) 0 (first_view about)
 first_fits about = record {
   opened = λ _. refl;
+  budgeted = λ _. refl;
   part = record { rest = []; whole = refl };
   told = record { rest = []; whole = refl };
   numbered = λ _. refl;
@@ -266,7 +270,7 @@ first_fits about = record {
 }
 
 -- what holds of the first seat holds of each
-only_first : (about : Marks × Estimate) (P : ℕ → View → Type 0) → P 0 (first_view about) → (seat : ℕ) (view : View)
+only_first : (about : Opened) (P : ℕ → View → Type 0) → P 0 (first_view about) → (seat : ℕ) (view : View)
     → get_elem? (first_view about ∷ []) seat ≡ some view → P seat view
 only_first about P holds seat view at =
     ⊎_elim (λ never. absurd (some-ne-none view (sym never)))
@@ -276,17 +280,19 @@ only_first about P holds seat view at =
 
 -- nobody waits at the start
 abbrev first_words : List ℕ
-first_words = 0 ∷ 1 ∷ 0 ∷ 0 ∷ 0 ∷ 0 ∷ 0 ∷ 0 ∷ []
+first_words = 0 ∷ 1 ∷ 0 ∷ 0 ∷ 0 ∷ 0 ∷ []
 
 at_rest : (waiter : Waiter) → get_or first_words (bell_word waiter) 0 ≡ 0
 at_rest Writer = refl
 at_rest Sender = refl
 
 -- what holds at the start
-pub at_first : (about : Marks × Estimate) (carried : Carried)
-    → carried.connection.unsent.settings ≡ record { marks = about.0; estimate = about.1 } → StandsFor carried.connection []
-    → Ruled (opening (0 ∷ 1 ∷ 0 ∷ 0 ∷ 0 ∷ 0 ∷ 0 ∷ 0 ∷ []) (carried ∷ []) (first_view about))
-at_first about carried settings stands =
+pub at_first : (about : Opened) (carried : Carried)
+    → carried.connection.unsent.settings ≡ record { marks = about.marks; estimate = about.estimate }
+    → StandsFor carried.connection []
+    → IsCovered (within_of about) carried.connection (cover_of carried)
+    → Ruled (opening (0 ∷ 1 ∷ 0 ∷ 0 ∷ 0 ∷ 0 ∷ []) (carried ∷ []) (first_view about))
+at_first about carried settings stands covered =
     record {
       past = first_past about;
       words = refl;
@@ -295,6 +301,7 @@ at_first about carried settings stands =
           carried = carried;
           here = refl;
           left = record { settings_are = settings; stands = stands };
+          covered = covered;
           all_shown = refl;
         };
         nobody = only_first about (λ seat view. view.holds ≡ false) refl;
@@ -315,7 +322,7 @@ at_first about carried settings stands =
       shown = record {
         begins = record { rest = []; whole = refl };
         legal = refl;
-        published = sym (ap (λ (word : ℕ). packed word 0) (word_at_start (record { marks = about.0; estimate = about.1 })));
+        published = sym (ap (λ (word : ℕ). packed word 0) (word_at_start (record { marks = about.marks; estimate = about.estimate })));
         small = omega arith;
       };
       role = λ never. absurd (cc never);

@@ -1,18 +1,20 @@
 -- What a handle is told at the lock, and what a call leaves.
-use Rattle.std.proofs.Common.{◌≡◌, ℕ, ◌<◌, ◌^◌, List, [], ◌∷◌, ◌++◌, refl, sym, ap, ◌∙◌, subst, append_assoc, Result, Ok}
+use Rattle.std.proofs.Common.{◌≡◌, ℕ, ◌<◌, ◌^◌, List, [], ◌∷◌, ◌++◌, refl, sym, ap, ◌∙◌, subst, append_assoc, Option, Result, Ok}
 use Rattle.std.proofs.lemmas.List.{append-nil}
 use Rattle.atomic_table.specs.Seated.{TableId}
 use Rattle.atomic_table.specs.Table.{rest}
 use Rattle.ob_types.specs.Packed.{packed}
 use Rattle.ob_types.specs.declared.command.Command.{Command}
 use Rattle.ob_connection.specs.Connected.{Connected, StandsFor}
+use Rattle.ob_covered.specs.Cover.{CoverValue}
 use Rattle.ob_shared_connection.specs.Acts.{Continues}
 use Rattle.ob_shared_connection.specs.Calls.{IsCall, IsLock}
+use Rattle.ob_shared_connection.specs.Covers.{IsCovered, IsUnder, budget_of, cover_of}
 use Rattle.ob_shared_connection.specs.Glances.{IsGlance, IsLegal, glance_after}
 use Rattle.ob_shared_connection.specs.Log.{calls_of, commands_by, commands_of}
 use Rattle.ob_shared_connection.specs.Ruled.{settings_of, view_with}
-use Rattle.ob_shared_connection.specs.Steps.{Holds, IsNamed, Knows, Locks, Reads, Rests, carried_in, connected_in, handle_of, held_of}
-use Rattle.ob_shared_connection.specs.Values.{IsLeftBy}
+use Rattle.ob_shared_connection.specs.Steps.{Holds, IsNamed, Knows, Locks, Reads, Rests, carried_in, connected_in, cover_in, handle_of, held_of}
+use Rattle.ob_shared_connection.specs.Values.{IsLeftBy, recovered}
 use Rattle.ob_shared_connection.specs.declared.call.Call.{Call}
 use Rattle.ob_shared_connection.specs.declared.carried.Carried.{Carried}
 use Rattle.ob_shared_connection.specs.declared.glance.Glance.{Glance}
@@ -29,6 +31,11 @@ module _ (old new : Knows) (named : IsNamed old.0) (locks : Locks old new) where
       subst (λ (view : View). IsLeftBy (settings_of view) view.seen (connected_in new.1)) (sym locks.view)
       (locks.left named.there)
 
+  seat_covered : IsCovered new.0.budget (connected_in new.1) (cover_in new.1)
+  seat_covered =
+      subst (λ (view : View). IsCovered view.budget (connected_in new.1) (cover_in new.1)) (sym locks.view)
+      (locks.covered named.there)
+
   -- a seat that took the lock has it
   pub has_lock : old.1 ≡ [] → Holds new
   has_lock none = record {
@@ -43,6 +50,7 @@ module _ (old new : Knows) (named : IsNamed old.0) (locks : Locks old new) where
       slot = locks.slot ∙ ap (λ (slots : List (ℕ × Carried)). (0, carried_in new.1) ∷ slots) none;
     };
     left = seat_left;
+    covered = seat_covered;
     unheard_yet = ap (λ (view : View). view.bells) locks.view;
   }
 
@@ -58,6 +66,7 @@ module _ (old new : Knows) (named : IsNamed old.0) (locks : Locks old new) where
         ∙ named.own);
     untouched = locks.untouched;
     left = seat_left;
+    covered = seat_covered;
   }
 
 abbrev glance_of : ℕ → ℕ → Glance
@@ -120,50 +129,116 @@ module _ (old : Knows) (found : ℕ) (new : Knows) (rests : Rests old) (reads : 
       glance_parts : (w t : ℕ) (glance : Glance) → w ≡ glance.word → t ≡ glance.total → glance_of w t ≡ glance
       glance_parts w t glance same_word same_total = λ i. glance_of (same_word i) (same_total i)
 
+-- what lies under the lock is covered, before a call and after one that left the cover
+module _ (me : Knows) (before : Carried) (holds : Holds me) (had : me.1 ≡ (0, before) ∷ rest me.1) where
+  covered_now : IsCovered me.0.budget before.connection (cover_of before)
+  covered_now =
+      subst (λ (carried : Carried). IsCovered me.0.budget carried.connection (cover_of carried)) (ap carried_in had) holds.covered
+
+  pub under_now : IsUnder before.connection (cover_of before)
+  under_now = covered_now.under
+
+  -- after one that left the seat at its budget
+  pub covered_after : (after : Carried) → budget_of (cover_of after) ≡ budget_of (cover_of before)
+      → IsUnder after.connection (cover_of after) → IsCovered me.0.budget after.connection (cover_of after)
+  covered_after after same under = record { budget_is = same ∙ covered_now.budget_is; under = under }
+
+pub covered_still : (me : Knows) (before after : Carried) (holds : Holds me) (had : me.1 ≡ (0, before) ∷ rest me.1)
+    → cover_of after ≡ cover_of before → IsUnder after.connection (cover_of after)
+    → IsCovered me.0.budget after.connection (cover_of after)
+covered_still me before after holds had same under = covered_after me before holds had after (ap budget_of same) under
+
+-- what a call leaves in a seat that has the lock, of which nothing changed but the cover
+module _ (me : Knows) (before after : Carried) (holds : Holds me) (had : me.1 ≡ (0, before) ∷ rest me.1)
+    (covered : IsCovered me.0.budget after.connection (cover_of after)) where
+  was : carried_in me.1 ≡ before
+  was = ap carried_in had
+
+  -- what the seat knows then, if the connection is as it was
+  abbrev pub recovers : Knows
+  recovers = (me.0, (0, after) ∷ rest me.1)
+
+  -- it has the lock still
+  pub still_recovers : after.connection ≡ before.connection → Holds recovers
+  still_recovers same = record {
+    lock = record {
+      seat = holds.lock.seat;
+      holds = holds.lock.holds;
+      slot = ap (λ (slots : List (ℕ × Carried)). (0, after) ∷ rest slots) holds.lock.slot;
+    };
+    left = subst (λ (connected : Connected). IsLeftBy (settings_of me.0) me.0.seen connected)
+        (ap (λ (carried : Carried). carried.connection) was ∙ sym same) holds.left;
+    covered = covered;
+    unheard_yet = holds.unheard_yet;
+  }
+
+  -- and contracts see the cover alone changed
+  pub is_recovered : (table : TableId) → after.connection ≡ before.connection
+      → held_of table recovers ≡ recovered (cover_of after) (held_of table me)
+  is_recovered table same =
+      ap (λ (connected : Connected). record {
+        connected = connected;
+        cover = cover_of after;
+        handle = handle_of table me.0;
+      }) (same ∙ ap (λ (carried : Carried). carried.connection) (sym was))
+
 -- what an accepted call leaves
 module _ (me : Knows) (commands : List Command) (before after : Carried) (holds : Holds me)
     (had : me.1 ≡ (0, before) ∷ rest me.1) (goes : Continues before.connection commands after.connection)
-  where
-    -- what the seat knows then
-    abbrev pub next : Knows
-    next = (view_with commands me.0, (0, after) ∷ rest me.1)
+    (covered : IsCovered me.0.budget after.connection (cover_of after)) where
+  -- what the seat knows then
+  abbrev pub next : Knows
+  next = (view_with commands me.0, (0, after) ∷ rest me.1)
 
-    was : carried_in me.1 ≡ before
-    was = ap carried_in had
+  found : carried_in me.1 ≡ before
+  found = ap carried_in had
 
-    left_next : IsLeftBy (settings_of me.0) (me.0.seen ++ calls_of me.0.caller commands) after.connection
-    left_next = record {
-      settings_are = goes.settings ∙ ap (λ (carried : Carried). carried.connection.unsent.settings) (sym was)
-          ∙ holds.left.settings_are;
-      stands = subst (λ (history : List Command). StandsFor after.connection history)
-          (sym (commands_of-more me.0.caller me.0.seen commands))
-          (goes.stands (commands_of me.0.seen)
-          (subst (λ (carried : Carried). StandsFor carried.connection (commands_of me.0.seen)) was holds.left.stands));
-    }
+  left_next : IsLeftBy (settings_of me.0) (me.0.seen ++ calls_of me.0.caller commands) after.connection
+  left_next = record {
+    settings_are = goes.settings ∙ ap (λ (carried : Carried). carried.connection.unsent.settings) (sym found)
+        ∙ holds.left.settings_are;
+    stands = subst (λ (history : List Command). StandsFor after.connection history)
+        (sym (commands_of-more me.0.caller me.0.seen commands))
+        (goes.stands (commands_of me.0.seen)
+        (subst (λ (carried : Carried). StandsFor carried.connection (commands_of me.0.seen)) found holds.left.stands));
+  }
 
-    -- it has the lock still
-    pub still_holds : Holds next
-    still_holds = record {
-      lock = record {
-        seat = record {
-          named = holds.lock.seat.named;
-          there = holds.lock.seat.there;
-          own = ap (λ (first : List Command). first ++ commands) holds.lock.seat.own
-              ∙ sym (own_added me.0.caller me.0.seen commands);
-        };
-        holds = holds.lock.holds;
-        slot = ap (λ (slots : List (ℕ × Carried)). (0, after) ∷ rest slots) holds.lock.slot;
+  -- it has the lock still
+  pub still_holds : Holds next
+  still_holds = record {
+    lock = record {
+      seat = record {
+        named = holds.lock.seat.named;
+        there = holds.lock.seat.there;
+        own = ap (λ (first : List Command). first ++ commands) holds.lock.seat.own
+            ∙ sym (own_added me.0.caller me.0.seen commands);
       };
-      left = left_next;
-      unheard_yet = holds.unheard_yet;
-    }
+      holds = holds.lock.holds;
+      slot = ap (λ (slots : List (ℕ × Carried)). (0, after) ∷ rest slots) holds.lock.slot;
+    };
+    left = left_next;
+    covered = covered;
+    unheard_yet = holds.unheard_yet;
+  }
 
-    -- and the call is as contracts say it
-    pub is_call : {A E : Type 0} (Does : Connected → Result A E → Connected → Type 0) (table : TableId) (answer : A)
-        → Does before.connection (Ok answer) after.connection → IsCall Does commands (held_of table me) (Ok answer) (held_of table next)
-    is_call Does table answer does = record {
-      does = subst (λ (carried : Carried). Does carried.connection (Ok answer) after.connection) (sym was) does;
-      listed = refl;
-      refused = tt;
-      left = left_next;
-    }
+  -- and the call is as contracts say it, of the connection under the cover that it has then
+  pub is_call_under : {A E : Type 0} (Does : Connected → Result A E → Connected → Type 0) (table : TableId) (answer : A)
+      → Does before.connection (Ok answer) after.connection
+      → IsCall Does commands (recovered (cover_of after) (held_of table me)) (Ok answer) (held_of table next)
+  is_call_under Does table answer does = record {
+    does = subst (λ (carried : Carried). Does carried.connection (Ok answer) after.connection) (sym found) does;
+    listed = refl;
+    refused = tt;
+    left = left_next;
+    kept = refl;
+    covered = covered;
+  }
+
+  -- so it is, if the cover is as it was
+  pub is_call : {A E : Type 0} (Does : Connected → Result A E → Connected → Type 0) (table : TableId) (answer : A)
+      → cover_of after ≡ cover_of before → Does before.connection (Ok answer) after.connection
+      → IsCall Does commands (held_of table me) (Ok answer) (held_of table next)
+  is_call Does table answer same does =
+      subst (λ (cover : Option CoverValue).
+      IsCall Does commands (recovered cover (held_of table me)) (Ok answer) (held_of table next))
+      (same ∙ ap cover_of (sym found)) (is_call_under Does table answer does)

@@ -40,6 +40,7 @@ pub fits_still : (past : Past) (seat : ℕ) (old new : View)
 fits_still past seat old new same numbered told fits =
     subst (λ (view : View). Fits past seat view) (sym same) (record {
       opened = fits.opened;
+      budgeted = fits.budgeted;
       part = fits.part;
       told = told;
       numbered = numbered;

@@ -1,6 +1,7 @@
 -- What holds of who waits.
-use Rattle.std.proofs.Common.{◌≡◌, ◌++◌, Bool, true, List, refl, sym, ap, ◌∙◌, subst, append_assoc}
-use Rattle.std.proofs.lemmas.List.Elements.{All-append}
+use Rattle.std.proofs.Common.{◌≡◌, ◌++◌, Bool, true, List, [], refl, sym, ap, ◌∙◌, subst, append_assoc}
+use Rattle.std.proofs.lemmas.List.Elements.{All-append, All-nil}
+use Rattle.std.proofs.lemmas.List.{append-nil}
 use Rattle.ob_types.specs.declared.command.Command.{Command}
 use Rattle.ob_shared_connection.specs.Calls.{IsLock}
 use Rattle.ob_shared_connection.specs.Log.{commands_by, commands_of}
@@ -28,6 +29,20 @@ lock_again old first second one two = record {
   untouched = λ sends. All-append (λ call. leaves_flushed call.command ≡ true) one.between two.between
       (one.untouched sends) (two.untouched (ap (λ (handle : HandleValue). handle.sends) one.sees ∙ sends));
   left = two.left;
+  covered = two.covered;
+}
+
+-- who has just taken it has it with what it knows
+pub lock_itself : (old : HandleValue) (held : Held) → IsLock old held → IsLock held.handle held
+lock_itself old held lock = record {
+  between = [];
+  sees = ap (λ (seen : List Call). record held.handle { seen = seen }) (sym (append-nil held.handle.seen));
+  own = ap (λ (handle : HandleValue). handle.mine) lock.sees ∙ lock.own
+      ∙ ap (λ (handle : HandleValue). commands_by handle.caller held.handle.seen) (sym lock.sees);
+  others = refl;
+  untouched = λ _. All-nil (λ call. leaves_flushed call.command ≡ true);
+  left = lock.left;
+  covered = lock.covered;
 }
 
 -- under the lock since, and a look at it changed nothing
@@ -61,6 +76,7 @@ may_leave old shown heard last writers work owed owed_next holds is first second
         slot = holds.lock.slot;
       };
       left = holds.left;
+      covered = holds.covered;
       shows = refl;
       rung = rung;
     })

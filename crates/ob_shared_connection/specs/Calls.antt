@@ -16,6 +16,7 @@ use Rattle.ob_connection.specs.declared.refused.Refused.{Refused}
 use Rattle.ob_connection.specs.declared.replies.Flushed.{Flushed}
 use Rattle.ob_connection.specs.declared.replies.Taken.{Taken}
 use Rattle.ob_connection.specs.declared.replies.Written.{Written}
+use Rattle.ob_shared_connection.specs.Covers.{IsCovered}
 use Rattle.ob_shared_connection.specs.Log.{commands_by}
 use Rattle.ob_shared_connection.specs.Removals.{NoneRemoves}
 use Rattle.ob_shared_connection.specs.Values.{HandleValue, Held, IsLeft, handle_with}
@@ -24,7 +25,7 @@ use Rattle.ob_shared_connection.specs.declared.written.WrittenAndFlushed.{Writte
 
 -- a handle that takes the lock sees all accepted calls, and the connection is what they leave: what it had seen begins
 -- them, its own are just those that were accepted from it, in order, and what came between is of other handles; of that
--- nothing took flushed messages away if this handle is the one that sends
+-- nothing took flushed messages away if this handle is the one that sends; what is pending is covered
 pub record IsLock (old : HandleValue) (new : Held) : Type 0 where
   pub between : List Call
   pub sees : new.handle ≡ record old { seen = old.seen ++ between }
@@ -32,15 +33,18 @@ pub record IsLock (old : HandleValue) (new : Held) : Type 0 where
   pub others : commands_by old.caller between ≡ []
   pub untouched : old.sends ≡ true → NoneRemoves between
   pub left : IsLeft new
+  pub covered : IsCovered new.handle.budget new.connected new.cover
 
 -- a call under the lock does this to the connection; if it is accepted, the list has its commands behind all others, and
--- else nothing changed
+-- else nothing changed; the cover is as it was, and covers what is pending
 pub record IsCall {A E : Type 0} (Does : Connected → Result A E → Connected → Type 0) (commands : List Command)
     (old : Held) (result : Result A E) (new : Held) : Type 0 where
   pub does : Does old.connected result new.connected
   pub listed : OnOk result (new.handle ≡ handle_with commands old.handle)
   pub refused : OnErr result (new ≡ old)
   pub left : IsLeft new
+  pub kept : new.cover ≡ old.cover
+  pub covered : IsCovered new.handle.budget new.connected new.cover
 
 -- a call of one command
 abbrev pub Makes : {A : Type 0} → (Command → Connected → Result A Refusal → Connected → Type 0) → Command

@@ -1,6 +1,7 @@
 -- How handles begin, and how they end.
 use Rattle.std.specs.Prelude.{◌≡◌, ◌≤◌, ◌+◌, true, false, List, [], ◌∷◌, ◌++◌, length}
 use Rattle.ob_seq.specs.Rows.{Settings}
+use Rattle.ob_shared_connection.specs.Covers.{IsCovered}
 use Rattle.ob_shared_connection.specs.Log.{IsBeginning, commands_by}
 use Rattle.ob_shared_connection.specs.Shares.{IsWhole, halves}
 use Rattle.ob_shared_connection.specs.Values.{HandleValue, IsLeftBy}
@@ -39,15 +40,16 @@ pub record IsJoined (old other new : HandleValue) : Type 0 where
   }
   pub part : IsBeginning other.seen new.seen
 
--- the end of a connection: of the list of all calls the handle had seen a beginning, and its own are those of its number
--- in it; if it is told that nobody had the lock, the connection is what the calls leave; at least as many handles are
--- told as this one stands for, and if they are as many, there are as many calls as were accepted from those; and if its
--- share is the whole, just those are told, and that nobody had the lock
+-- the end of a connection: of the list of all calls the handle had seen a beginning, and its own are those of its
+-- number in it; if it is told that nobody had the lock, the connection is what the calls leave, under its cover; at
+-- least as many handles are told as this one stands for, and if they are as many, there are as many calls as were
+-- accepted from those; and if its share is the whole, just those are told, and that nobody had the lock
 pub record IsEnd (handle : HandleValue) (ended : Ended) : Type 0 where
   pub log : List Call
   pub part : IsBeginning handle.seen log
   pub own : handle.mine ≡ commands_by handle.caller log
   pub left : ended.is_left ≡ true → IsLeftBy handle.settings log ended.connection
+  pub covered : ended.is_left ≡ true → IsCovered handle.budget ended.connection ended.cover
   pub few : 1 + handle.others ≤ ended.handles
   pub counted : ended.handles ≡ 1 + handle.others → length log ≡ length handle.mine + handle.handed
   pub all : IsWhole handle.share → (ended.handles ≡ 1 + handle.others) × (ended.is_left ≡ true)

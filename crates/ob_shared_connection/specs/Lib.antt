@@ -2,12 +2,15 @@ pub mod Acts
 pub mod Bells
 pub mod Callers
 pub mod Calls
+pub mod Covering
+pub mod Covers
 pub mod Glances
 pub mod Handles
 pub mod Leaving
 pub mod Log
 pub mod Looking
 pub mod Removals
+pub mod Room
 pub mod Ruled
 pub mod Sending
 pub mod Shares

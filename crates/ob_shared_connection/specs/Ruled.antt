@@ -1,15 +1,15 @@
 -- What holds of the words, of the connection and of what each seat knows, between any two steps. No public clause cites
 -- it.
-use Rattle.std.specs.Prelude.{◌≡◌, ◌≢◌, ◌<◌, ◌≤◌, ◌+◌, ◌^◌, ℕ, Bool, true, false, List, [], ◌∷◌, ◌++◌, length, slice_index}
+use Rattle.std.specs.Prelude.{◌≡◌, ◌≢◌, ◌<◌, ◌≤◌, ◌+◌, ◌^◌, ℕ, Bool, true, false, List, [], ◌∷◌, ◌++◌, length, slice_index, None, option_map}
 use Rattle.std.specs.List.{All, sum_by}
 use mathlib.Core.Option.{Option, none, some}
 use lib.ListN.{get_elem?}
+use Rattle.std.specs.Arc.{arc_value}
 use Rattle.atomic_table.specs.Table.{State}
-use Rattle.ob_types.specs.WaterMark.{Marks}
 use Rattle.ob_types.specs.declared.command.Command.{Command}
-use Rattle.ob_types.specs.declared.estimate.Estimate.{Estimate}
 use Rattle.ob_seq.specs.Rows.{Settings}
 use Rattle.ob_shared_connection.specs.Bells.{bell_word, is_silent, unheard}
+use Rattle.ob_shared_connection.specs.Covers.{IsCovered, Within, cover_of}
 use Rattle.ob_shared_connection.specs.Glances.{IsLegal, glance_after, packed_glance}
 use Rattle.ob_shared_connection.specs.Log.{IsBeginning, calls_of, commands_by, commands_of}
 use Rattle.ob_shared_connection.specs.Removals.{NoneRemoves}
@@ -19,6 +19,7 @@ use Rattle.ob_shared_connection.specs.Waiting.{is_due, moment_after}
 use Rattle.ob_shared_connection.specs.declared.bell.Waiter.{Waiter}
 use Rattle.ob_shared_connection.specs.declared.call.Call.{Call}
 use Rattle.ob_shared_connection.specs.declared.carried.Carried.{Carried}
+use Rattle.ob_shared_connection.specs.declared.rule.Opened.{Opened}
 use Rattle.ob_shared_connection.specs.declared.view.Bells.{Bells}
 use Rattle.ob_shared_connection.specs.declared.view.View.{View}
 
@@ -26,11 +27,16 @@ use Rattle.ob_shared_connection.specs.declared.view.View.{View}
 abbrev pub settings_of : View → Settings
 settings_of view = record { marks = view.marks; estimate = view.estimate }
 
+-- the budget that a connection is opened within, if one
+abbrev pub within_of : Opened → Within
+within_of opened = option_map (λ budget. arc_value budget) opened.budget
+
 -- what the first seat knows
-abbrev pub first_view : Marks × Estimate → View
-first_view about = record {
-  marks = about.0;
-  estimate = about.1;
+abbrev pub first_view : Opened → View
+first_view opened = record {
+  marks = opened.marks;
+  estimate = opened.estimate;
+  budget = within_of opened;
   named = true;
   spent = false;
   caller = 0;
@@ -51,6 +57,7 @@ abbrev pub new_view : View → View
 new_view view = record {
   marks = view.marks;
   estimate = view.estimate;
+  budget = view.budget;
   named = false;
   spent = false;
   caller = 0;
@@ -123,6 +130,7 @@ abbrev pub spent_view : View
 spent_view = record {
   marks = record { low = 0; high = 0 };
   estimate = record { overhead = 0; unknown = 0 };
+  budget = None;
   named = false;
   spent = true;
   caller = 0;
@@ -151,10 +159,11 @@ handles_of view = count_if view.named (1 + view.others)
 abbrev pub calls_with : View → ℕ
 calls_with view = count_if view.named (length view.mine + view.handed)
 
--- what is behind the words and the connection: what was opened, all accepted calls, those after which the glance was
--- published, which seat had the lock last, and which one sends, if one does
+-- what is behind the words and the connection: what was opened, within which budget, all accepted calls, those after
+-- which the glance was published, which seat had the lock last, and which one sends, if one does
 pub record Past : Type 0 where
   pub settings : Settings
+  pub budget : Within
   pub log : List Call
   pub shown : List Call
   pub holder : ℕ
@@ -166,6 +175,7 @@ pub record Past : Type 0 where
 -- it has not seen took flushed messages away
 pub record Fits (past : Past) (seat : ℕ) (view : View) : Type 0 where
   pub opened : view.spent ≡ false → settings_of view ≡ past.settings
+  pub budgeted : view.spent ≡ false → view.budget ≡ past.budget
   pub part : IsBeginning view.seen past.log
   pub told : IsBeginning view.told past.shown
   pub numbered : view.named ≡ true → view.caller ≡ seat
@@ -185,11 +195,13 @@ AllFit past views = (seat : ℕ) (view : View) → get_elem? views seat ≡ some
 abbrev pub IsNobodys : List View → Type 0
 IsNobodys views = (seat : ℕ) (view : View) → get_elem? views seat ≡ some view → view.holds ≡ false
 
--- the connection is at home, and is what the calls leave; the glance after all of them is published
+-- the connection is at home, and is what the calls leave, and what is pending of it is covered; the glance after all of
+-- them is published
 pub record AtHome (past : Past) (homes : List (Option Carried)) : Type 0 where
   pub carried : Carried
   pub here : homes ≡ some carried ∷ []
   pub left : IsLeftBy past.settings past.log carried.connection
+  pub covered : IsCovered past.budget carried.connection (cover_of carried)
   pub all_shown : past.shown ≡ past.log
 
 -- nobody has the lock, and the connection is at home
@@ -245,7 +257,7 @@ IsVacant past number = number ≡ 1 → past.sender ≡ none
 -- tells that nobody sends
 pub record Ruled (state : State Carried View) : Type 0 where
   pub past : Past
-  pub words : length state.words ≡ 8
+  pub words : length state.words ≡ 6
   pub free : slice_index state.words 0 ≡ 0 → IsFree past state.homes state.views
   pub fits : AllFit past state.views
   pub taken : slice_index state.words 0 ≢ 0 → IsTaken state.views

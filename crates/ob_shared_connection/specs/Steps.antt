@@ -1,10 +1,12 @@
 -- What a seat is between two steps, and what a step tells it. No public clause cites it.
-use Rattle.std.specs.Prelude.{◌≡◌, ◌≢◌, ◌<◌, ℕ, Bool, true, false, List, [], ◌∷◌, ◌++◌}
+use Rattle.std.specs.Prelude.{◌≡◌, ◌≢◌, ◌<◌, ℕ, Bool, true, false, List, [], ◌∷◌, ◌++◌, Option, None}
 use Rattle.atomic_table.specs.Seated.{TableId}
 use Rattle.atomic_table.specs.Table.{Me}
 use Rattle.ob_connection.specs.Connected.{Connected}
 use Rattle.ob_seq.specs.Unsent.{nothing_unsent}
+use Rattle.ob_covered.specs.Cover.{CoverValue}
 use Rattle.ob_shared_connection.specs.Bells.{awaited, is_owed, is_silent, silent, unheard}
+use Rattle.ob_shared_connection.specs.Covers.{IsCovered, cover_of}
 use Rattle.ob_shared_connection.specs.Glances.{IsLegal, glance_after, packed_glance}
 use Rattle.ob_shared_connection.specs.Handles.{IsEnd}
 use Rattle.ob_shared_connection.specs.Log.{IsBeginning, commands_by, commands_of}
@@ -31,18 +33,23 @@ no_connection = record {
 
 -- what a seat has taken out of the slot
 abbrev pub carried_in : List (ℕ × Carried) → Carried
-carried_in [] = record { connection = no_connection }
+carried_in [] = record { connection = no_connection; cover = None }
 carried_in (slot ∷ slots) = slot.1
 
 -- the connection that a seat has
 abbrev pub connected_in : List (ℕ × Carried) → Connected
 connected_in slots = (carried_in slots).connection
 
+-- the cover that lies beside it
+abbrev pub cover_in : List (ℕ × Carried) → Option CoverValue
+cover_in slots = cover_of (carried_in slots)
+
 -- what contracts see of a seat
 abbrev pub handle_of : TableId → View → HandleValue
 handle_of table view = record {
   connection = table;
   settings = settings_of view;
+  budget = view.budget;
   caller = view.caller;
   sends = view.sends;
   mine = view.mine;
@@ -53,7 +60,7 @@ handle_of table view = record {
 }
 
 abbrev pub held_of : TableId → Knows → Held
-held_of table me = record { connected = connected_in me.1; handle = handle_of table me.0 }
+held_of table me = record { connected = connected_in me.1; cover = cover_in me.1; handle = handle_of table me.0 }
 
 -- a seat is that of a handle
 pub record IsNamed (view : View) : Type 0 where
@@ -73,10 +80,11 @@ pub record HasLock (me : Knows) : Type 0 where
   pub holds : me.0.holds ≡ true
   pub slot : me.1 ≡ (0, carried_in me.1) ∷ []
 
--- and the connection is what all calls leave, and of the bells nothing is known yet
+-- and the connection is what all calls leave, what is pending is covered, and of the bells nothing is known yet
 pub record Holds (me : Knows) : Type 0 where
   pub lock : HasLock me
   pub left : IsLeftBy (settings_of me.0) me.0.seen (connected_in me.1)
+  pub covered : IsCovered me.0.budget (connected_in me.1) (cover_in me.1)
   pub unheard_yet : me.0.bells ≡ unheard
 
 -- who waits at the bell and may go on does not any more, as the seat knows that has the lock
@@ -88,6 +96,7 @@ IsRung waiter view =
 pub record MayLeave (me : Knows) : Type 0 where
   pub lock : HasLock me
   pub left : IsLeftBy (settings_of me.0) me.0.seen (connected_in me.1)
+  pub covered : IsCovered me.0.budget (connected_in me.1) (cover_in me.1)
   pub shows : me.0.shows ≡ true
   pub rung : (waiter : Waiter) → IsRung waiter me.0
 
@@ -109,7 +118,7 @@ pub record Hushes (waiter : Waiter) (due owed : Bool) (old new : Knows) : Type 0
   pub others : (other : Waiter) → other ≢ waiter → (is_silent other new.0.bells ≡ is_silent other old.0.bells)
       × (is_owed other new.0.bells ≡ is_owed other old.0.bells)
 
--- a seat takes the lock: it has the connection then, which is what all calls leave
+-- a seat takes the lock: it has the connection then, which is what all calls leave, and its cover
 pub record Locks (old new : Knows) : Type 0 where
   pub between : List Call
   pub view : new.0 ≡ held_view (old.0.seen ++ between) old.0
@@ -117,6 +126,7 @@ pub record Locks (old new : Knows) : Type 0 where
   pub own : old.0.named ≡ true → old.0.spent ≡ false → old.0.mine ≡ commands_by old.0.caller (old.0.seen ++ between)
   pub untouched : old.0.sends ≡ true → NoneRemoves between
   pub left : old.0.spent ≡ false → IsLeftBy (settings_of old.0) (old.0.seen ++ between) (connected_in new.1)
+  pub covered : old.0.spent ≡ false → IsCovered old.0.budget (connected_in new.1) (cover_in new.1)
 
 -- a try to take it: it is taken if it was free, and else nothing changes
 pub record Tries (old : Knows) (found : ℕ) (new : Knows) : Type 0 where

@@ -1,19 +1,23 @@
 -- What contracts see of a handle, and of what lies under the lock.
-use Rattle.std.specs.Prelude.{◌≡◌, ℕ, Bool, false, true, List, ◌++◌}
+use Rattle.std.specs.Prelude.{◌≡◌, ℕ, Bool, false, true, List, ◌++◌, Option}
 use Rattle.atomic_table.specs.Seated.{TableId}
 use Rattle.ob_types.specs.declared.command.Command.{Command}
 use Rattle.ob_seq.specs.Rows.{Settings}
 use Rattle.ob_connection.specs.Connected.{Connected, StandsFor}
+use Rattle.ob_covered.specs.Cover.{CoverValue}
+use Rattle.ob_shared_connection.specs.Covers.{Within}
 use Rattle.ob_shared_connection.specs.Log.{calls_of, commands_of}
 use Rattle.ob_shared_connection.specs.Shares.{halves}
 use Rattle.ob_shared_connection.specs.declared.call.Call.{Call}
 
--- a handle: which connection it is of, and what that was opened with; its number; whether it is the one that takes
--- messages away; what was accepted from it, in order; the accepted calls that it has seen; how many other handles it took
--- in, with the number of calls that were accepted from those; and its share of the connection
+-- a handle: which connection it is of, what that was opened with, and within which budget, if one; its number; whether
+-- it is the one that takes messages away; what was accepted from it, in order; the accepted calls that it has seen; how
+-- many other handles it took in, with the number of calls that were accepted from those; and its share of the
+-- connection
 pub record HandleValue : Type 0 where
   pub connection : TableId
   pub settings : Settings
+  pub budget : Within
   pub caller : ℕ
   pub sends : Bool
   pub mine : List Command
@@ -22,9 +26,11 @@ pub record HandleValue : Type 0 where
   pub handed : ℕ
   pub share : List ℕ
 
--- what lies under the lock, and the handle that has it: what it has seen are all accepted calls
+-- what lies under the lock, the connection and the cover of what is pending, if it is within a budget; and the handle
+-- that has it: what it has seen are all accepted calls
 pub record Held : Type 0 where
   pub connected : Connected
+  pub cover : Option CoverValue
   pub handle : HandleValue
 
 -- a connection is as it was opened, and what these calls leave
@@ -54,3 +60,7 @@ resigned handle = record handle { sends = false }
 -- the handle once another got half of its share
 abbrev pub sharing : HandleValue → HandleValue
 sharing handle = record handle { share = halves handle.share }
+
+-- what lies under the lock, once the cover is this
+abbrev pub recovered : Option CoverValue → Held → Held
+recovered cover held = record held { cover = cover }

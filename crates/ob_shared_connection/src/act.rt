@@ -1,7 +1,8 @@
-ghost use Rattle.std.specs.Prelude.{◌≡◌, List, OnErr, OnOk, Result};
+ghost use Rattle.std.specs.Prelude.{◌≡◌, List, OnErr, OnOk, IsOk, Result, Some, ℕ};
 ghost use Rattle.ob_types.specs.declared.command.Command.{Command};
 ghost use Rattle.ob_connection.specs.Connected.{Connected};
 ghost use Rattle.ob_shared_connection.specs.Acts.{Continues};
+ghost use Rattle.ob_shared_connection.specs.Covers.{Adds, FitsIn};
 
 use ob_connection::Connection;
 
@@ -19,8 +20,20 @@ pub trait Act {
     /// What it does to a connection, as the sequential call promises it.
     ghost does: { Self → Connected → Result Self.Answer Self.Fault → Connected → Type 0 };
 
-    fn act(self, connection: &mut Connection) -> Result<Self::Answer, Self::Fault>
+    /// The bytes that a seat has to hold for it beside those that are pending: those that it writes, if the connection
+    /// accepts it while there is memory; else none.
+    fn adds(&self, connection: &Connection) -> u64
+        ensures { Adds connection.now (commands self.now) result };
+
+    /// Makes it. Of a connection within a budget no more bytes are pending then than its seat holds, which is `room`: a
+    /// write that would pass that is out of memory.
+    fn act(
+        self,
+        connection: &mut Connection,
+        room: Option<u64>,
+    ) -> Result<Self::Answer, Self::Fault>
         ensures does { does self connection.old result connection.new }
         ensures goes_on { OnOk result (Continues connection.old (commands self) connection.new) }
-        ensures refused { OnErr result (connection.new ≡ connection.old) };
+        ensures refused { OnErr result (connection.new ≡ connection.old) }
+        ensures fits { (bytes : ℕ) → room ≡ Some bytes → IsOk result → FitsIn connection.old (commands self) bytes };
 }

@@ -27,7 +27,7 @@ pub trait Bell {
     /// Which word it is.
     fn word() -> usize
         ensures is { result ≡ bell_word waiter }
-        ensures within { result < 8 };
+        ensures within { result < 6 };
 
     /// For how long who waits there leaves the lock to others.
     fn patience() -> Patience;

@@ -1,4 +1,5 @@
-ghost use Rattle.std.specs.Prelude.{◌≡◌, ◌≤◌, false, true, IfErr, IfOk, IfSome, IsOkUnless, None, OnErr, OnOk};
+ghost use Rattle.std.specs.Prelude.{◌≡◌, ◌≤◌, ◌<◌, false, true, IfErr, IfOk, IfSome, IsOkUnless, None, OnErr, OnOk, Some, option_map};
+ghost use Rattle.std.specs.Box.{box_value};
 ghost use Rattle.std.specs.Arc.{arc_value};
 
 mod sending;
@@ -11,11 +12,15 @@ use crate::glance::Glance;
 use crate::handle::TooManyHandles;
 use crate::looks::{At, Leave};
 use crate::moment::Moment;
+use crate::over::OverBudget;
 use crate::patience::Patience;
 use crate::place::Place;
 use crate::plays::Accepted;
+use crate::rule::Opened;
 use crate::shared::{Seat, Shared};
 use crate::wakes::Wakes;
+use ob_budget::{Pressure, RaiseFault};
+use ob_covered::{Cover, Told};
 use ob_types::{Estimate, Refusal, WaterMark, pack, unpack};
 use std::alloc::Global;
 use std::marker::Brand;
@@ -35,6 +40,9 @@ impl Caller {
     ghost use Rattle.ob_shared_connection.specs.Handles.{IsAnother, IsButForShare, IsEnd, IsFirst, IsJoined};
     ghost use Rattle.ob_shared_connection.specs.Values.{appointed, resigned, sharing};
     ghost use Rattle.ob_shared_connection.specs.Calls.{IsCall, IsLock, UnderLock};
+    ghost use Rattle.ob_shared_connection.specs.Covering.{ActsWithin, IsRecovered, Settles};
+    ghost use Rattle.ob_shared_connection.specs.Covers.{Adds, HoldsFor, LacksRoom, TakesFor, TellsIf, budget_of};
+    ghost use Rattle.ob_shared_connection.specs.Ruled.{within_of};
     ghost use Rattle.ob_shared_connection.specs.Glances.{IsGlance};
     ghost use Rattle.ob_shared_connection.specs.Looking.{IsLook};
     ghost use Rattle.ob_shared_connection.specs.Removals.{MayGive};
@@ -48,9 +56,59 @@ impl Caller {
         ensures free { IfOk result IsFree }
         ensures first { IfOk result (λ caller.
             IsFirst (record { marks = marks; estimate = estimate }) (caller_handle caller)) }
+        ensures budget { IfOk result (λ caller. (caller_handle caller).budget ≡ None) }
         ensures no_memory { IsOkUnless result Refusal.NoMemory }
     {
-        let (shared, seat) = Shared::new(alloc, marks, estimate)?;
+        let opened = Opened {
+            marks,
+            estimate,
+            budget: None,
+        };
+        Caller::begin(alloc, opened, None)
+    }
+
+    /// The same, under this cover.
+    pub fn open_within(
+        alloc: Global,
+        marks: WaterMark,
+        estimate: Estimate,
+        cover: Cover,
+    ) -> Result<Caller, Refusal>
+        requires overhead { estimate.overhead ≤ greatest_overhead }
+        requires unknown { estimate.unknown ≤ greatest_unknown }
+        ensures free { IfOk result IsFree }
+        ensures first { IfOk result (λ caller.
+            IsFirst (record { marks = marks; estimate = estimate }) (caller_handle caller)) }
+        ensures budget { IfOk result (λ caller. (caller_handle caller).budget ≡ Some cover.seat.budget) }
+        ensures no_memory { IsOkUnless result Refusal.NoMemory }
+    {
+        let Ok(budget) = Arc::try_clone(cover.budget()) else {
+            return Err(Refusal::NoMemory);
+        };
+        let cover = Box::new(alloc, cover)?;
+        let opened = Opened {
+            marks,
+            estimate,
+            budget: Some(budget),
+        };
+        Caller::begin(alloc, opened, Some(cover))
+    }
+
+    fn begin(
+        alloc: Global,
+        opened: Opened,
+        cover: Option<Box<Cover, Global>>,
+    ) -> Result<Caller, Refusal>
+        requires overhead { opened.estimate.overhead ≤ greatest_overhead }
+        requires unknown { opened.estimate.unknown ≤ greatest_unknown }
+        requires budget { budget_of (option_map (λ held. box_value held) cover) ≡ within_of opened }
+        ensures free { IfOk result IsFree }
+        ensures first { IfOk result (λ caller.
+            IsFirst (record { marks = opened.marks; estimate = opened.estimate }) (caller_handle caller)) }
+        ensures budget { IfOk result (λ caller. (caller_handle caller).budget ≡ within_of opened) }
+        ensures no_memory { IsOkUnless result Refusal.NoMemory }
+    {
+        let (shared, seat) = Shared::new(alloc, opened, cover)?;
         let shared = Arc::new(alloc, shared)?;
         Ok(Caller { shared, seat })
     }
@@ -252,6 +310,92 @@ impl Caller {
         ask.ask(&carried.connection)
     }
 
+    /// The bytes that a seat has to hold for an act beside those that are pending.
+    fn adds<A: Act>(&mut self, act: &A) -> u64
+        requires { IsHolder self.old }
+        ensures holds { IsHolder self.new }
+        ensures same { caller_held self.new ≡ caller_held self.old }
+        ensures adds { Adds (caller_held self.old).connected (A.commands act.now) result }
+    {
+        let shared = &self.shared;
+        let carried = self.seat.slot_mut(&shared.table.shared, 0);
+        act.adds(&carried.connection)
+    }
+
+    /// Has the seat of a budget hold these bytes beside what is pending.
+    fn take(&mut self, bytes: u64) -> Result<Option<Pressure>, RaiseFault>
+        requires holds { IsHolder self.old }
+        requires small { bytes < 4294967296 }
+        ensures holds { IsHolder self.new }
+        ensures same { IsRecovered (caller_held self.old) (caller_held self.new) }
+        ensures told { IfOk result (λ told. TellsIf (caller_held self.old).cover told (caller_held self.new).cover) }
+        ensures untold { OnErr result (TellsIf (caller_held self.old).cover None (caller_held self.new).cover) }
+        ensures enough { OnOk result (HoldsFor (caller_held self.old).connected bytes (caller_held self.new).cover) }
+        ensures sparing { TakesFor (caller_held self.old).connected bytes (caller_held self.old).cover (caller_held self.new).cover }
+        ensures short { IfErr result (λ fault. LacksRoom (caller_held self.old).connected (caller_held self.old).cover bytes fault
+            (caller_held self.new).cover) }
+    {
+        let shared = &self.shared;
+        let carried = self.seat.slot_mut(&shared.table.shared, 0);
+        carried.take(bytes)
+    }
+
+    /// Has it give back what is spare.
+    pub fn settle(&mut self) -> Option<Pressure>
+        requires { IsHolder self.old }
+        ensures holds { IsHolder self.new }
+        ensures settles { Settles 2 result (caller_held self.old) (caller_held self.new) }
+    {
+        let shared = &self.shared;
+        let carried = self.seat.slot_mut(&shared.table.shared, 0);
+        carried.settle()
+    }
+
+    /// Has it give back all above what is pending.
+    pub fn rest(&mut self) -> Option<Pressure>
+        requires { IsHolder self.old }
+        ensures holds { IsHolder self.new }
+        ensures settles { Settles 0 result (caller_held self.old) (caller_held self.new) }
+    {
+        let shared = &self.shared;
+        let carried = self.seat.slot_mut(&shared.table.shared, 0);
+        carried.rest()
+    }
+
+    /// Does something to the connection under the lock, once its seat holds what that adds.
+    pub fn act_within<A: Act>(
+        &mut self,
+        act: A,
+    ) -> Told<Result<Result<A::Answer, A::Fault>, OverBudget<A>>>
+        requires holds { IsHolder self.old }
+        requires may { MayGive (caller_handle self.old).sends (A.commands act) }
+        ensures holds { IsHolder self.new }
+        ensures acts { ActsWithin (A.does act) (A.commands act) act (caller_held self.old) result (caller_held self.new) }
+    {
+        let adds = self.adds(&act);
+        if adds == 0 {
+            let answer = self.act(act);
+            let pressure = self.settle();
+            return Told {
+                answer: Ok(answer),
+                pressure,
+            };
+        }
+        match self.take(adds) {
+            Ok(pressure) => {
+                let answer = self.act(act);
+                Told {
+                    answer: Ok(answer),
+                    pressure,
+                }
+            }
+            Err(fault) => Told {
+                answer: Err(OverBudget { fault, act }),
+                pressure: None,
+            },
+        }
+    }
+
     /// One call, which takes the lock and lets it go.
     #[inline(always)]
     pub fn call<A: Act, R: Wait>(&mut self, rt: &R, act: A) -> Result<A::Answer, A::Fault>
@@ -266,6 +410,79 @@ impl Caller {
         let answer = self.act(act);
         self.unlock();
         answer
+    }
+
+    /// One call within a budget, which takes the lock and lets it go.
+    pub fn call_within<A: Act, R: Wait>(
+        &mut self,
+        rt: &R,
+        act: A,
+    ) -> Told<Result<Result<A::Answer, A::Fault>, OverBudget<A>>>
+        requires free { IsFree self.old }
+        requires may { MayGive (caller_handle self.old).sends (A.commands act) }
+        ensures free { IsFree self.new }
+        ensures sends { (caller_handle self.new).sends ≡ (caller_handle self.old).sends }
+        ensures under { UnderLock (caller_handle self.old)
+            (λ before after. ActsWithin (A.does act) (A.commands act) act before result after) (caller_handle self.new) }
+    {
+        self.lock(rt, Patience::Short);
+        let told = self.act_within(act);
+        self.unlock();
+        told
+    }
+
+    /// The same if the lock is free, and tells whom to wake.
+    pub fn try_call_within<A: Act>(
+        &mut self,
+        act: A,
+    ) -> Result<
+        (
+            Told<Result<Result<A::Answer, A::Fault>, OverBudget<A>>>,
+            Wakes,
+        ),
+        A,
+    >
+        requires free { IsFree self.old }
+        requires may { MayGive (caller_handle self.old).sends (A.commands act) }
+        ensures free { IsFree self.new }
+        ensures sends { (caller_handle self.new).sends ≡ (caller_handle self.old).sends }
+        ensures under { IfOk result (λ told. UnderLock (caller_handle self.old)
+            (λ before after. ActsWithin (A.does act) (A.commands act) act before told.0 after) (caller_handle self.new)) }
+        ensures busy { OnErr result (caller_handle self.new ≡ caller_handle self.old) }
+        ensures back { IfErr result (λ again. again ≡ act) }
+    {
+        if !self.try_lock() {
+            return Err(act);
+        }
+        let told = self.act_within(act);
+        let wakes = self.leave();
+        Ok((told, wakes))
+    }
+
+    /// Gives back what is spare, under the lock.
+    pub fn settle_under_lock<R: Wait>(&mut self, rt: &R) -> Option<Pressure>
+        requires { IsFree self.old }
+        ensures free { IsFree self.new }
+        ensures sends { (caller_handle self.new).sends ≡ (caller_handle self.old).sends }
+        ensures under { UnderLock (caller_handle self.old) (Settles 2 result) (caller_handle self.new) }
+    {
+        self.lock(rt, Patience::Short);
+        let told = self.settle();
+        self.unlock();
+        told
+    }
+
+    /// Gives back all above what is pending, under the lock.
+    pub fn rest_under_lock<R: Wait>(&mut self, rt: &R) -> Option<Pressure>
+        requires { IsFree self.old }
+        ensures free { IsFree self.new }
+        ensures sends { (caller_handle self.new).sends ≡ (caller_handle self.old).sends }
+        ensures under { UnderLock (caller_handle self.old) (Settles 0 result) (caller_handle self.new) }
+    {
+        self.lock(rt, Patience::Short);
+        let told = self.rest();
+        self.unlock();
+        told
     }
 
     /// One call if the lock is free, which takes it and lets it go, and tells whom to wake.

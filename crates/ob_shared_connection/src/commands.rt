@@ -7,6 +7,7 @@ ghost use Rattle.ob_connection.specs.Obeying.{done_reply};
 ghost use Rattle.ob_shared_connection.specs.Calls.{GivingUp, ObeyingFreely, Taking, TakingQuietly, Writing, giving_up};
 
 use crate::act::Act;
+use crate::lacking::{bytes_added, room_lacks};
 use ob_connection::{Connection, Flushed, Refused, Removed, Taken, Written};
 use ob_types::{Cause, Change, Message, Refusal, WaterMark};
 
@@ -22,7 +23,17 @@ impl Act for Write {
 
     ghost does = { λ act. Writing act.0 };
 
-    fn act(self, connection: &mut Connection) -> Result<Written, Refused> {
+    fn adds(&self, connection: &Connection) -> u64 {
+        bytes_added(connection, &self.0)
+    }
+
+    fn act(self, connection: &mut Connection, room: Option<u64>) -> Result<Written, Refused> {
+        if room_lacks(connection, &self.0, room) {
+            return Err(Refused {
+                refusal: Refusal::NoMemory,
+                message: self.0,
+            });
+        }
         connection.write(self.0)
     }
 }
@@ -39,7 +50,11 @@ impl Act for Flush {
 
     ghost does = { λ _. ObeyingFreely flushed_reply command.Flush };
 
-    fn act(self, connection: &mut Connection) -> Result<Flushed, Refusal> {
+    fn adds(&self, _connection: &Connection) -> u64 {
+        0
+    }
+
+    fn act(self, connection: &mut Connection, _room: Option<u64>) -> Result<Flushed, Refusal> {
         connection.flush()
     }
 }
@@ -56,7 +71,11 @@ impl Act for Remove {
 
     ghost does = { λ _. ObeyingFreely removed_reply command.Remove };
 
-    fn act(self, connection: &mut Connection) -> Result<Removed, Refusal> {
+    fn adds(&self, _connection: &Connection) -> u64 {
+        0
+    }
+
+    fn act(self, connection: &mut Connection, _room: Option<u64>) -> Result<Removed, Refusal> {
         connection.remove()
     }
 }
@@ -73,7 +92,11 @@ impl Act for RemoveWith {
 
     ghost does = { λ act. ObeyingFreely removed_reply (command.RemoveWith act.0) };
 
-    fn act(self, connection: &mut Connection) -> Result<Removed, Refusal> {
+    fn adds(&self, _connection: &Connection) -> u64 {
+        0
+    }
+
+    fn act(self, connection: &mut Connection, _room: Option<u64>) -> Result<Removed, Refusal> {
         connection.remove_with(self.0)
     }
 }
@@ -90,7 +113,11 @@ impl Act for TakeSent {
 
     ghost does = { λ act. Taking Success (command.RemoveBytes act.0) };
 
-    fn act(self, connection: &mut Connection) -> Result<Taken, Refusal> {
+    fn adds(&self, _connection: &Connection) -> u64 {
+        0
+    }
+
+    fn act(self, connection: &mut Connection, _room: Option<u64>) -> Result<Taken, Refusal> {
         connection.take_sent(self.0)
     }
 }
@@ -107,7 +134,11 @@ impl Act for Progress {
 
     ghost does = { λ act. ObeyingFreely done_reply (command.Progress act.0) };
 
-    fn act(self, connection: &mut Connection) -> Result<(), Refusal> {
+    fn adds(&self, _connection: &Connection) -> u64 {
+        0
+    }
+
+    fn act(self, connection: &mut Connection, _room: Option<u64>) -> Result<(), Refusal> {
         connection.progress(self.0)
     }
 }
@@ -124,7 +155,11 @@ impl Act for Cancel {
 
     ghost does = { λ act. ObeyingFreely (cancelled_reply act.0) (command.Cancel (record { 0 = act.0 })) };
 
-    fn act(self, connection: &mut Connection) -> Result<bool, Refusal> {
+    fn adds(&self, _connection: &Connection) -> u64 {
+        0
+    }
+
+    fn act(self, connection: &mut Connection, _room: Option<u64>) -> Result<bool, Refusal> {
         connection.cancel(self.0)
     }
 }
@@ -141,7 +176,11 @@ impl Act for FailFlushed {
 
     ghost does = { λ act. TakingQuietly (Failed act.0) (act.1 ≡ false) (command.FailFlushed act.0 act.1) };
 
-    fn act(self, connection: &mut Connection) -> Result<Taken, Refusal> {
+    fn adds(&self, _connection: &Connection) -> u64 {
+        0
+    }
+
+    fn act(self, connection: &mut Connection, _room: Option<u64>) -> Result<Taken, Refusal> {
         connection.fail_flushed(self.0, self.1)
     }
 }
@@ -158,7 +197,11 @@ impl Act for Close {
 
     ghost does = { λ act. TakingQuietly (Failed act.0) ⊤ (command.Close act.0) };
 
-    fn act(self, connection: &mut Connection) -> Result<Taken, Refusal> {
+    fn adds(&self, _connection: &Connection) -> u64 {
+        0
+    }
+
+    fn act(self, connection: &mut Connection, _room: Option<u64>) -> Result<Taken, Refusal> {
         connection.close(self.0)
     }
 }
@@ -175,7 +218,11 @@ impl Act for GiveUp {
 
     ghost does = { λ act. GivingUp act.0 };
 
-    fn act(self, connection: &mut Connection) -> Result<Taken, Refusal> {
+    fn adds(&self, _connection: &Connection) -> u64 {
+        0
+    }
+
+    fn act(self, connection: &mut Connection, _room: Option<u64>) -> Result<Taken, Refusal> {
         connection.give_up(self.0)
     }
 }
@@ -192,7 +239,15 @@ impl Act for UserBit {
 
     ghost does = { λ act. ObeyingFreely bit_reply (command.UserBit act.0 act.1) };
 
-    fn act(self, connection: &mut Connection) -> Result<Option<Change>, Refusal> {
+    fn adds(&self, _connection: &Connection) -> u64 {
+        0
+    }
+
+    fn act(
+        self,
+        connection: &mut Connection,
+        _room: Option<u64>,
+    ) -> Result<Option<Change>, Refusal> {
         connection.user_bit(self.0, self.1)
     }
 }
@@ -209,7 +264,11 @@ impl Act for SetMarks {
 
     ghost does = { λ act. ObeyingFreely done_reply (command.SetMarks act.0) };
 
-    fn act(self, connection: &mut Connection) -> Result<(), Refusal> {
+    fn adds(&self, _connection: &Connection) -> u64 {
+        0
+    }
+
+    fn act(self, connection: &mut Connection, _room: Option<u64>) -> Result<(), Refusal> {
         connection.set_marks(self.0)
     }
 }

@@ -2,6 +2,7 @@ ghost use Rattle.std.specs.Prelude.{◌≡◌, true};
 
 mod commands;
 mod looks;
+mod within;
 
 use crate::caller::Caller;
 use crate::handle::Handle;

@@ -1,4 +1,4 @@
-ghost use Rattle.std.specs.Prelude.{◌≡◌, ◌≤◌, true, IfErr, IfOk, IsOkUnless, OnErr, OnOk};
+ghost use Rattle.std.specs.Prelude.{◌≡◌, ◌≤◌, true, IfErr, IfOk, IsOkUnless, None, OnErr, OnOk, Some};
 ghost use Rattle.ob_types.specs.Limits.{greatest_overhead, greatest_unknown};
 ghost use Rattle.ob_shared_connection.specs.Calls.{IsLock, UnderLock};
 ghost use Rattle.ob_shared_connection.specs.Glances.{IsGlance};
@@ -11,6 +11,7 @@ ghost use Rattle.ob_shared_connection.specs.declared.bell.Waiter.TheVariants as 
 mod commands;
 mod looks;
 mod tries;
+mod within;
 
 use crate::bell::Writers;
 use crate::caller::Caller;
@@ -20,6 +21,7 @@ use crate::guard::Guard;
 use crate::moment::Moment;
 use crate::patience::Patience;
 use crate::transport::Transport;
+use ob_covered::Cover;
 use ob_types::{Estimate, Refusal, WaterMark};
 use std::alloc::{AllocError, Global};
 use std::marker::Model;
@@ -74,9 +76,33 @@ impl Handle {
         requires overhead { estimate.overhead ≤ greatest_overhead }
         requires unknown { estimate.unknown ≤ greatest_unknown }
         ensures first { IfOk result (λ handle. IsFirst (record { marks = marks; estimate = estimate }) handle) }
+        ensures budget { IfOk result (λ handle. handle.budget ≡ None) }
         ensures no_memory { IsOkUnless result Refusal.NoMemory }
     {
         Ok(Handle::new(Caller::open(alloc, marks, estimate)?))
+    }
+
+    /// The first handle of a connection with nothing written, which is within the budget of this cover: at each moment
+    /// what is pending of it is at most what the seat of the cover holds. The numbers and the refusal are those of
+    /// `open`; a cover that was not used is let go, with its seat.
+    ///
+    /// `act_within` raises the seat for what it writes. Any other call leaves the seat as it is, and is refused as
+    /// `NoMemory` if it would write what that does not hold. `Ended` gives the cover back: a connection whose last
+    /// handle is dropped keeps what it held of the budget.
+    pub fn open_within(
+        alloc: Global,
+        marks: WaterMark,
+        estimate: Estimate,
+        cover: Cover,
+    ) -> Result<Handle, Refusal>
+        requires overhead { estimate.overhead ≤ greatest_overhead }
+        requires unknown { estimate.unknown ≤ greatest_unknown }
+        ensures first { IfOk result (λ handle. IsFirst (record { marks = marks; estimate = estimate }) handle) }
+        ensures budget { IfOk result (λ handle. handle.budget ≡ Some cover.seat.budget) }
+        ensures no_memory { IsOkUnless result Refusal.NoMemory }
+    {
+        let caller = Caller::open_within(alloc, marks, estimate, cover)?;
+        Ok(Handle::new(caller))
     }
 
     /// A handle of a caller that does not have the lock.

@@ -1,10 +1,12 @@
 use crate::carried::Carried;
 use crate::view::View;
 use atomic_table::TableRule;
+use ob_budget::Budget;
 use ob_types::{Estimate, WaterMark};
+use std::sync::Arc;
 
 /// How many words the table has.
-pub const WORDS: usize = 8;
+pub const WORDS: usize = 6;
 
 /// The word that is the lock.
 pub const LOCK: usize = 0;
@@ -45,10 +47,18 @@ pub const TAKEN: u64 = 1;
 /// A handle has it, and others may sleep until it is free.
 pub const WAITED: u64 = 2;
 
+/// What a connection is opened with, and within which budget, if one.
+#[derive(Drop)]
+pub struct Opened {
+    pub marks: WaterMark,
+    pub estimate: Estimate,
+    pub budget: Option<Arc<Budget>>,
+}
+
 /// What holds between any two steps.
 pub struct Rule;
 
-impl TableRule<Carried, View, (WaterMark, Estimate)> for Rule {
+impl TableRule<Carried, View, Opened> for Rule {
     ghost use Rattle.ob_shared_connection.specs.Ruled.{Ruled, first_view};
 
     ghost holds = { λ _. Ruled };

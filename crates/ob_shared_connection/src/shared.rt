@@ -1,4 +1,5 @@
-ghost use Rattle.std.specs.Prelude.{◌≡◌, ◌≤◌, ℕ, false, true, [], IfOk, OnOk, IsOkUnless};
+ghost use Rattle.std.specs.Prelude.{◌≡◌, ◌≤◌, ℕ, false, true, [], IfOk, OnOk, IsOkUnless, option_map};
+ghost use Rattle.std.specs.Box.{box_value};
 
 use crate::bell::{Bell, Work, Writers};
 use crate::carried::Carried;
@@ -12,14 +13,15 @@ use crate::plays::{
     Silence, Take, Unlock,
 };
 use crate::rule::{
-    AWAITED, FREE, GIVEN, GIVEN_OUT, LOCK, PUBLISHED, ROLE, Rule, SILENT, TAKEN, VACANT, WAITED,
-    WORDS,
+    AWAITED, FREE, GIVEN, GIVEN_OUT, LOCK, Opened, PUBLISHED, ROLE, Rule, SILENT, TAKEN, VACANT,
+    WAITED, WORDS,
 };
 use crate::view::View;
 use crate::wakes::Wakes;
 use atomic_table::{Refused, Table};
 use ob_connection::Connection;
-use ob_types::{Estimate, Refusal, WaterMark};
+use ob_covered::Cover;
+use ob_types::Refusal;
 use std::alloc::Global;
 use std::marker::Brand;
 use std::sync::Wait;
@@ -48,8 +50,8 @@ const LOOKS: u32 = 40;
 /// The table that all handles of a connection share: the lock is one of its words, and the connection lies in its slot.
 #[derive(Drop)]
 pub struct Shared {
-    pub table: Table<Carried, View, (WaterMark, Estimate), Rule, Global>,
-    ghost words: { table.shared.table_id.words ≡ 8 },
+    pub table: Table<Carried, View, Opened, Rule, Global>,
+    ghost words: { table.shared.table_id.words ≡ 6 },
     ghost slots: { table.shared.table_id.slots ≡ 1 },
 }
 
@@ -57,7 +59,8 @@ impl Shared {
     ghost use Rattle.ob_types.specs.Limits.{greatest_overhead, greatest_unknown};
     ghost use Rattle.ob_shared_connection.specs.Bells.{awaited, is_owed, silenced, silent};
     ghost use Rattle.ob_shared_connection.specs.declared.bell.Waiter.TheVariants as waiter;
-    ghost use Rattle.ob_shared_connection.specs.Ruled.{both_views, first_view, free_view, hearing_view, named_view, new_view, resigned_view, sending_view, sharing_view, shown_view, view_with};
+    ghost use Rattle.ob_shared_connection.specs.Ruled.{both_views, first_view, free_view, hearing_view, named_view, new_view, resigned_view, sending_view, sharing_view, shown_view, view_with, within_of};
+    ghost use Rattle.ob_shared_connection.specs.Covers.{budget_of};
     ghost use Rattle.ob_shared_connection.specs.Log.{commands_by};
     ghost use Rattle.ob_shared_connection.specs.Removals.{MayGive};
     ghost use Rattle.ob_shared_connection.specs.Steps.{HasLock, Hushes, IsEndOf, IsNamed, IsNow, Locks, MayLeave, Reads, Rests};
@@ -66,21 +69,22 @@ impl Shared {
     /// A table with a connection that has nothing written, and its first seat.
     pub fn new(
         alloc: Global,
-        marks: WaterMark,
-        estimate: Estimate,
+        opened: Opened,
+        cover: Option<Box<Cover, Global>>,
     ) -> Result<(Shared, Seat), Refusal>
-        requires overhead { estimate.overhead ≤ greatest_overhead }
-        requires unknown { estimate.unknown ≤ greatest_unknown }
+        requires overhead { opened.estimate.overhead ≤ greatest_overhead }
+        requires unknown { opened.estimate.unknown ≤ greatest_unknown }
+        requires budget { budget_of (option_map (λ held. box_value held) cover) ≡ within_of opened }
         ensures seat { IfOk result (λ made. IsSeatOf made.0 made.1) }
-        ensures me { IfOk result (λ made. made.1.me ≡ (first_view (marks, estimate), [])) }
+        ensures me { IfOk result (λ made. made.1.me ≡ (first_view opened, [])) }
         ensures no_memory { IsOkUnless result Refusal.NoMemory }
     {
+        let connection = Connection::new(alloc, opened.marks, opened.estimate);
+        let _look = connection.look();
         let mut slots = Vec::new(alloc);
-        slots.push(Carried {
-            connection: Connection::new(alloc, marks, estimate),
-        })?;
-        let words: [u64; WORDS] = [FREE, 1, 0, 0, 0, 0, 0, 0];
-        match Table::new(alloc, &words, slots, &(marks, estimate)) {
+        slots.push(Carried { connection, cover })?;
+        let words: [u64; WORDS] = [FREE, 1, 0, 0, 0, 0];
+        match Table::new(alloc, &words, slots, &opened) {
             Ok((table, seat)) => Ok((Shared { table }, seat)),
             Err(Refused { slots: _ }) => Err(Refusal::NoMemory),
         }
@@ -464,9 +468,10 @@ impl Shared {
         let handles = closed.word(GIVEN);
         let carried = closed.take(0);
         closed.free();
-        let Carried { connection } = carried;
+        let (connection, cover) = carried.into_parts();
         Ended {
             connection,
+            cover,
             handles,
             is_left,
         }

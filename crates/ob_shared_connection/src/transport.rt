@@ -12,6 +12,7 @@ mod commands;
 mod sending;
 mod tries;
 mod turns;
+mod within;
 
 use crate::bell::Work;
 use crate::caller::Caller;

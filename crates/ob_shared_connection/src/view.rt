@@ -1,6 +1,7 @@
 //! What a seat at the table knows. No value of it is made: it stands in contracts and proofs alone.
 
 use crate::call::Call;
+use ob_budget::Budget;
 use ob_types::{Command, Estimate, WaterMark};
 use std::collections::LinkedList;
 
@@ -10,6 +11,8 @@ pub struct View {
     pub marks: WaterMark,
     /// How it counts messages.
     pub estimate: Estimate,
+    /// The budget that it was opened within, if one.
+    pub budget: Option<Budget>,
     /// Whether it is the seat of a handle.
     pub named: bool,
     /// Whether another seat took it in.

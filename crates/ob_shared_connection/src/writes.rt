@@ -7,6 +7,10 @@ ghost use Rattle.ob_shared_connection.specs.Acts.{IsOpen};
 ghost use Rattle.ob_shared_connection.specs.Calls.{Flushing, Putting, ThenFlushes, Writing};
 
 use crate::act::Act;
+use crate::lacking::{
+    bytes_added, bytes_added_by, bytes_added_by_parts, room_lacks, room_lacks_block,
+    room_lacks_parts,
+};
 use crate::written::WrittenAndFlushed;
 use ob_connection::{Connection, Flushed, Refused, Written};
 use ob_types::{Message, Refusal};
@@ -24,7 +28,14 @@ impl Act for Put {
 
     ghost does = { λ act. Putting act.0 };
 
-    fn act(self, connection: &mut Connection) -> Result<Written, Refusal> {
+    fn adds(&self, connection: &Connection) -> u64 {
+        bytes_added(connection, &self.0)
+    }
+
+    fn act(self, connection: &mut Connection, room: Option<u64>) -> Result<Written, Refusal> {
+        if room_lacks(connection, &self.0, room) {
+            return Err(Refusal::NoMemory);
+        }
         match connection.write(self.0) {
             Ok(written) => Ok(written),
             Err(refused) => Err(refused.refusal),
@@ -45,7 +56,14 @@ impl<'b> Act for WriteCopy<'b> {
 
     ghost does = { λ act. Putting (Block act.0.now) };
 
-    fn act(self, connection: &mut Connection) -> Result<Written, Refusal> {
+    fn adds(&self, connection: &Connection) -> u64 {
+        bytes_added_by(connection, self.0.len())
+    }
+
+    fn act(self, connection: &mut Connection, room: Option<u64>) -> Result<Written, Refusal> {
+        if room_lacks_block(connection, self.0.len(), room) {
+            return Err(Refusal::NoMemory);
+        }
         connection.write_copy(self.0)
     }
 }
@@ -63,7 +81,14 @@ impl<'p, 'b> Act for WriteParts<'p, 'b> {
 
     ghost does = { λ act. Putting (Block (joined act.0.now)) };
 
-    fn act(self, connection: &mut Connection) -> Result<Written, Refusal> {
+    fn adds(&self, connection: &Connection) -> u64 {
+        bytes_added_by_parts(connection, self.0)
+    }
+
+    fn act(self, connection: &mut Connection, room: Option<u64>) -> Result<Written, Refusal> {
+        if room_lacks_parts(connection, self.0, room) {
+            return Err(Refusal::NoMemory);
+        }
         connection.write_parts(self.0)
     }
 }
@@ -81,7 +106,21 @@ impl Act for WriteAndFlush {
 
     ghost does = { λ act. ThenFlushes (Writing act.0) };
 
-    fn act(self, connection: &mut Connection) -> Result<WrittenAndFlushed, Refused> {
+    fn adds(&self, connection: &Connection) -> u64 {
+        bytes_added(connection, &self.0)
+    }
+
+    fn act(
+        self,
+        connection: &mut Connection,
+        room: Option<u64>,
+    ) -> Result<WrittenAndFlushed, Refused> {
+        if room_lacks(connection, &self.0, room) {
+            return Err(Refused {
+                refusal: Refusal::NoMemory,
+                message: self.0,
+            });
+        }
         connection.stands_for_some_commands();
         let written = connection.write(self.0)?;
         let flushed = flush_behind(connection);
@@ -102,9 +141,20 @@ impl Act for PutAndFlush {
 
     ghost does = { λ act. ThenFlushes (Putting act.0) };
 
-    fn act(self, connection: &mut Connection) -> Result<WrittenAndFlushed, Refusal> {
+    fn adds(&self, connection: &Connection) -> u64 {
+        bytes_added(connection, &self.0)
+    }
+
+    fn act(
+        self,
+        connection: &mut Connection,
+        room: Option<u64>,
+    ) -> Result<WrittenAndFlushed, Refusal> {
+        if room_lacks(connection, &self.0, room) {
+            return Err(Refusal::NoMemory);
+        }
         connection.stands_for_some_commands();
-        let written = Put(self.0).act(connection)?;
+        let written = Put(self.0).act(connection, None)?;
         let flushed = flush_behind(connection);
         Ok(WrittenAndFlushed { written, flushed })
     }
@@ -123,7 +173,18 @@ impl<'b> Act for WriteCopyAndFlush<'b> {
 
     ghost does = { λ act. ThenFlushes (Putting (Block act.0.now)) };
 
-    fn act(self, connection: &mut Connection) -> Result<WrittenAndFlushed, Refusal> {
+    fn adds(&self, connection: &Connection) -> u64 {
+        bytes_added_by(connection, self.0.len())
+    }
+
+    fn act(
+        self,
+        connection: &mut Connection,
+        room: Option<u64>,
+    ) -> Result<WrittenAndFlushed, Refusal> {
+        if room_lacks_block(connection, self.0.len(), room) {
+            return Err(Refusal::NoMemory);
+        }
         connection.stands_for_some_commands();
         let written = connection.write_copy(self.0)?;
         let flushed = flush_behind(connection);

@@ -1,6 +1,12 @@
 use Rattle.ob_shared_connection.specs.Callers.{caller_handle, caller_held}
-use Rattle.ob_shared_connection.proofs.Waiting.{locked_anew, locked_still}
+use Rattle.ob_shared_connection.proofs.Waiting.{lock_itself, locked_anew, locked_still}
 use Rattle.ob_shared_connection.proofs.caller.Caller.wait_within.Goals as goal
+
+pub waits-init : goal.waits-init
+waits-init g c = record {
+  holds = c.lock.ensures.holds;
+  locks = lock_itself (caller_handle c.args.self.now) (caller_held c.lock.new.self) c.lock.ensures.locks;
+}
 
 pub returns-then-is_due-clause-locks : goal.returns-then-is_due-clause-locks
 returns-then-is_due-clause-locks g c =
