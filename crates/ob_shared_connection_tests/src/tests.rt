@@ -1,5 +1,6 @@
 ghost use Rattle.std.specs.Prelude.{◌≡◌, true, IfOk};
 
+mod budget;
 mod calls;
 mod roles;
 mod rows;
