@@ -10,10 +10,17 @@
 //! what was written since.
 //!
 //! All who wait stand in one list: writers, which wait for room; those who wait until messages are sent; and the pump,
-//! which waits for work. **Who is not there any more was woken, and the room that it asked for is kept.** One may write
+//! which waits for work. **Who is not there any more was let in, and the room that it asked for is kept.** One may write
 //! as long as less is kept than there is room for before the connection is unwritable. Each step ends with this: as long
-//! as one may write, the first writer in the list is woken. So none may while a writer is in the list, and nobody passes
+//! as one may write, the first writer in the list is let in. So none may while a writer is in the list, and nobody passes
 //! one that waits; and the pending bytes with the room that is kept pass the high mark by one message at most.
+//!
+//! Whoever is let in is woken, at once or one by one. After a sending they are a chain: the first is woken, each that
+//! comes wakes the next, and the last wakes the pump, if that has work by then. So they run behind each other where the
+//! pump ran, and what the mutex guards stays with that processor. If all are woken at once, other threads take some of
+//! them, and all meet at the mutex. The pump does not return from a poll while some of a chain are not woken, unless it
+//! has seen to it that it is polled again, and wakes them then: so one that is woken and does not come keeps nobody
+//! asleep. A chain that is slow ends, and all are woken: its tasks have other work to do.
 //!
 //! No wake-up is lost: who waits looks and joins the list in one step, and whoever brings about what it waits for takes
 //! it off in the step that notes it: a flush, a sending, the end. And who waits has all flushed that was written before,
@@ -21,16 +28,21 @@
 
 use crate::message::{Message, WriteError, bytes};
 use limekeel::{Outcome, SharedConnection};
-use std::collections::BTreeMap;
+use std::collections::{BTreeMap, VecDeque};
 use std::hint::spin_loop;
 use std::mem::{replace, take};
 use std::sync::{Arc, Mutex, MutexGuard, PoisonError};
 use std::task::{Context, Poll, Waker, ready};
+use std::time::{Duration, Instant};
 
 /// How often the mutex is tried before a thread sleeps on it, each time after twice as long a pause, the first of some
 /// microseconds: who has it makes more calls meanwhile, and that costs less than to hand it over for each. All together
 /// they are some 200 microseconds: who sleeps has to be woken by one that would write.
 const TRIES: u32 = 6;
+
+/// How long a chain may take for each message that is written meanwhile, as if they were 32 more. One that takes longer
+/// is of tasks that have other work to do, which several threads can do at once.
+const EACH: Duration = Duration::from_nanos(750);
 
 /// What the writers and the pump of a connection have in common.
 #[derive(Debug)]
@@ -54,7 +66,15 @@ pub struct Gate {
     waiting: BTreeMap<Place, (u64, Waker)>,
     arrivals: u64,
     /// Who is woken as soon as the mutex is free again.
-    woken: Vec<Waker>,
+    woken: VecDeque<Waker>,
+    /// Who is woken when the one before it has come, and behind them the pump, once it has work.
+    chain: VecDeque<Waker>,
+    /// When the chain began, and how many messages were written before. None if all are woken at once.
+    began: Option<(Instant, u64)>,
+    /// Whether one of the chain has come, so that the next is woken.
+    has_come: bool,
+    /// How often it was sent since a chain was slow, or 0 if the last was not.
+    slow: u8,
     /// How many messages were written, and how many of them are sent.
     pub written: u64,
     pub sent: u64,
@@ -88,9 +108,9 @@ impl Shared {
         let mut gate = self.lock();
         let answer = call(&mut gate);
         while !gate.waiting.is_empty() && gate.kept < gate.room && gate.wakes_first(Event::Room, Event::Room) {}
-        let woken = take(&mut gate.woken);
+        let (next, woken) = (gate.next_of_chain(), take(&mut gate.woken));
         drop(gate);
-        woken.into_iter().for_each(Waker::wake);
+        next.into_iter().chain(woken).for_each(Waker::wake);
         answer
     }
 
@@ -137,8 +157,22 @@ impl Shared {
         self.with(|gate| {
             gate.sent = count;
             gate.room = self.connection.look().before_unwritable.into();
+            gate.slow = gate.slow.wrapping_add(u8::from(gate.slow > 0));
+            if gate.chain.is_empty() {
+                // after slow ones at the next sending, and after twice as many each time
+                gate.has_come = gate.slow.count_ones() < 2;
+                gate.began = gate.has_come.then(|| (Instant::now(), gate.written));
+            }
             while gate.wakes_first(Event::Sent(0), Event::Sent(count)) {}
         });
+    }
+
+    /// Whether some of a chain are not woken yet. The pump comes again then, and wakes them.
+    pub fn has_chain(&self) -> bool {
+        self.with(|gate| {
+            gate.began = gate.began.filter(|_| !gate.chain.is_empty());
+            gate.began.is_some()
+        })
     }
 }
 
@@ -166,6 +200,7 @@ impl Gate {
     /// Lets nobody write any more; all that was written is sent, unless the pump has ended so.
     pub fn ends(&mut self, end: Option<Outcome>) {
         (self.is_over, self.wanted, self.end) = (true, true, end.or(self.end));
+        self.ends_chain();
         while self.wakes_first(Event::Room, Event::Work) {}
     }
 
@@ -174,8 +209,30 @@ impl Gate {
         let Some((&place, _)) = self.waiting.range((from, 0)..=(to, u64::MAX)).next() else { return false };
         let (size, waker) = self.waiting.remove(&place).expect("it stands there");
         self.kept += size;
-        self.woken.push(waker);
+        let is_one_by_one = self.began.is_some() && !matches!(from, Event::Sent(_));
+        if is_one_by_one { &mut self.chain } else { &mut self.woken }.push_back(waker);
         true
+    }
+
+    /// Wakes all who are left of a chain.
+    pub fn ends_chain(&mut self) {
+        self.began = None;
+        self.woken.append(&mut self.chain);
+    }
+
+    /// The next of the chain, if the one before it has come.
+    fn next_of_chain(&mut self) -> Option<Waker> {
+        if !take(&mut self.has_come) || self.chain.is_empty() {
+            return None;
+        }
+        let (at, written) = self.began?;
+        if self.written > written && at.elapsed() > EACH * (32 + self.written - written) as u32 {
+            self.slow = self.slow.max(1);
+            self.ends_chain();
+        } else if self.chain.len() == 1 {
+            self.slow = 0;
+        }
+        self.chain.pop_front()
     }
 }
 
@@ -204,6 +261,7 @@ impl Waiting {
             let stood = place.and_then(|place| gate.waiting.remove(&place));
             let is_turn = place.is_some() && stood.is_none();
             gate.kept -= if is_turn { *asked } else { 0 };
+            gate.has_come |= is_turn && place.is_some_and(|(event, _)| event == Event::Room);
             let answer = call(shared, gate, is_turn && size <= *asked);
             if answer.is_ready() {
                 *place = None;

@@ -11,7 +11,7 @@ use std::task::{Context, Poll, ready};
 ///
 /// Messages go in the order in which they were written, each whole. Who has to wait writes in the order of arrival, and
 /// one at a time: so the pending bytes ([`Outbound::pending`]) pass the high mark by one message at most, however many
-/// tasks write. A write that was polled and is then neither polled nor dropped holds up those behind it.
+/// tasks write. A write that was polled and is then neither polled nor dropped keeps its room.
 ///
 /// When the last is dropped, all that was written is sent, the stream is shut down, and the [`crate::Pump`] ends.
 #[derive(Clone, Debug)]

@@ -1,11 +1,12 @@
-use crate::gate::{Event, Shared, Waiting};
+use crate::gate::{Event, Gate, Shared, Waiting};
 use crate::outbound::{Open, Outbound};
 use limekeel::{Estimate, Marks, Outcome, Refusal, SharedConnection, Taken, Transport};
 use std::io::{self, ErrorKind, IoSlice};
-use std::pin::Pin;
+use std::pin::{Pin, pin};
 use std::sync::{Arc, Mutex};
 use std::task::{Context, Poll, ready};
 use tokio::io::AsyncWrite;
+use tokio::task::yield_now;
 
 /// How often the stream is written to before other tasks have their turn.
 const TURNS: usize = 32;
@@ -42,8 +43,7 @@ where
     }
     let (connection, transport) = SharedConnection::open(marks, estimate)?;
     let shared = Arc::new(Arc::new(Shared { connection, overhead: estimate.overhead.into(), gate: Mutex::default() }));
-    // how much room there is
-    shared.has_sent(0);
+    shared.with(|gate| gate.room = shared.connection.look().before_unwritable.into());
     let (turn, waiting) = (Waiting::new(&shared), Waiting::new(&shared));
     let outbound = Outbound { turn, _open: Arc::new(Open(shared)) };
     Ok((outbound, Pump { stream: Some(stream), transport, waiting, paused: None }))
@@ -99,6 +99,8 @@ impl<S: AsyncWrite + Unpin> Pump<S> {
     fn poll_all(&mut self, cx: &mut Context<'_>) -> Poll<io::Result<()>> {
         let Pump { stream, transport, waiting, paused } = self;
         let mut stream = Pin::new(stream.as_mut().expect(ENDED));
+        // who was let in and has not come holds up nobody
+        waiting.shared.with(Gate::ends_chain);
         for _ in 0..TURNS {
             let mut pauses = false;
             let next = waiting.poll(cx, Event::Work, 0, |shared, gate, _| {
@@ -157,7 +159,12 @@ impl<S: AsyncWrite + Unpin> Future for Pump<S> {
     /// After it has ended.
     fn poll(self: Pin<&mut Self>, cx: &mut Context<'_>) -> Poll<Ended<S>> {
         let pump = self.get_mut();
-        let error = ready!(pump.poll_all(cx)).err();
+        let polled = pump.poll_all(cx);
+        if polled.is_pending() && pump.waiting.shared.has_chain() {
+            // behind all else that its thread has to do: if it woke itself, another thread would take it along
+            let _ = pin!(yield_now()).poll(cx);
+        }
+        let error = ready!(polled).err();
         let left = pump.ends(if error.is_none() { Outcome::Success } else { Outcome::Failed(BROKEN) });
         let stream = pump.stream.take().expect(ENDED);
         Poll::Ready(Ended { stream, sent: left.promises.start, lost: left.count, error })

@@ -119,6 +119,8 @@ fn room_is_kept_for_those_who_were_woken() {
     let mut writers: Vec<_> = (0..6).map(|_| ByHand::new(outbound.write(b"next")).waits()).collect();
     assert!(pump.poll().is_pending());
     let woken = |writers: &[ByHand<_>]| writers.iter().filter(|writer| writer.woken() > 0).count();
+    assert_eq!((woken(&writers), pump.woken()), (1, 1));
+    assert!(pump.poll().is_pending());
     // three leave room of 50 bytes, so that one more is let in
     assert_eq!((woken(&writers), outbound.pending()), (4, 0));
     assert!(matches!(outbound.try_write(b"late"), Err(TryWriteError::Full(b"late"))));
@@ -141,13 +143,90 @@ macro_rules! three_let_in {
         }
         let mut $writers: Vec<_> = (0..3).map(|_| ByHand::new(outbound.write(b"next")).waits()).collect();
         assert!($pump.poll().is_pending());
-        assert!($writers.iter().all(|writer| writer.woken() == 1));
+        assert_eq!(woken_of(&$writers), [1, 0, 0]);
     };
+}
+
+fn woken_of<F: Future>(writers: &[ByHand<F>]) -> Vec<usize> {
+    writers.iter().map(ByHand::woken).collect()
+}
+
+/// Three that were let in come one after the other, unless this thread was held up meanwhile.
+fn come_one_by_one() -> bool {
+    three_let_in!(pump, stream, writers);
+    // the pump comes again by itself, in case that they do not
+    assert_eq!(pump.woken(), 1);
+    assert!(writers[0].poll().is_ready());
+    if woken_of(&writers) == [1, 1, 1] {
+        return false;
+    }
+    assert_eq!((woken_of(&writers), pump.woken()), (vec![1, 1, 0], 1));
+    drop(writers.remove(1));
+    assert_eq!(woken_of(&writers), [1, 1]);
+    if pump.woken() == 2 {
+        return false;
+    }
+    assert!(writers[1].poll().is_ready());
+    assert_eq!(pump.woken(), 2);
+    assert!(pump.poll().is_pending());
+    assert_eq!(stream.with(|within| (within.writes, within.got.len())), (2, 24));
+    true
+}
+
+#[test]
+fn who_comes_wakes_the_next_and_the_last_the_pump() {
+    assert!((0..1000).any(|_| come_one_by_one()));
+}
+
+#[test]
+fn who_was_let_in_and_does_not_come_keeps_nobody_asleep() {
+    three_let_in!(pump, stream, writers);
+    assert_eq!(pump.woken(), 1);
+    assert!(pump.poll().is_pending());
+    assert_eq!(woken_of(&writers), [1, 1, 1]);
+    for writer in &mut writers[1..] {
+        assert!(writer.poll().is_ready());
+    }
+    // once for those who were let in, and once more by itself
+    assert!(pump.poll().is_pending() && pump.poll().is_pending());
+    assert_eq!(stream.with(|within| within.got.len()), 24);
+}
+
+#[test]
+fn those_with_other_work_are_woken_at_once() {
+    three_let_in!(pump, stream, writers);
+    thread::sleep(Duration::from_millis(1));
+    assert!(writers[0].poll().is_ready());
+    assert_eq!((woken_of(&writers), pump.woken()), (vec![1, 1, 1], 2));
+    assert_eq!(stream.with(|within| within.got.len()), 16);
+}
+
+#[test]
+fn after_slow_ones_fewer_are_woken_one_by_one() {
+    let stream = Memory::new(Within { vectored: true, ..Within::default() });
+    let (outbound, pump) = split(stream, Marks { low: 150, high: 350 }).unwrap();
+    let mut pump = ByHand::new(pump);
+    let mut one_by_one = Vec::new();
+    for turn in 0..300 {
+        while outbound.is_writable() {
+            drop(outbound.try_write(b"full").unwrap());
+        }
+        let mut writers: Vec<_> = (0..2).map(|_| ByHand::new(outbound.write(b"next")).waits()).collect();
+        assert!(pump.poll().is_pending());
+        if woken_of(&writers) == [1, 0] {
+            one_by_one.push(turn);
+        }
+        thread::sleep(Duration::from_micros(100));
+        assert!(writers.iter_mut().all(|writer| writer.poll().is_ready()));
+        assert_eq!(woken_of(&writers), [1, 1]);
+    }
+    assert_eq!(one_by_one, [0, 1, 3, 7, 15, 31, 63, 127, 255, 256, 258, 262, 270, 286]);
 }
 
 #[test]
 fn what_those_write_who_were_let_in_goes_by_one_write() {
     three_let_in!(pump, stream, writers);
+    assert!(pump.poll().is_pending());
     let woken = pump.woken();
     assert!(writers[0].poll().is_ready());
     assert_eq!(pump.woken(), woken + 1);
@@ -162,6 +241,7 @@ fn what_those_write_who_were_let_in_goes_by_one_write() {
 #[test]
 fn one_that_was_let_in_and_does_not_write_holds_up_nothing() {
     three_let_in!(pump, stream, writers);
+    assert!(pump.poll().is_pending());
     assert!(writers[0].poll().is_ready());
     for sent in [16, 20] {
         assert!(pump.poll().is_pending());

@@ -144,6 +144,34 @@ fn a_stream_that_blocks_at_times_is_gone_on_with() {
     assert_eq!((sent, blocking.with(|within| within.got.len())), (20_000, 80_000));
 }
 
+#[test]
+fn one_that_is_let_in_and_does_not_come_keeps_nobody_asleep() {
+    for count in [1, 3] {
+        threads(count).block_on(in_time(async {
+            let stream = Memory::new(Within { vectored: true, ..Within::default() });
+            let (outbound, pump) = split(stream, Marks { low: 150, high: 350 }).unwrap();
+            for _ in 0..4 {
+                drop(outbound.try_write(b"full").unwrap());
+            }
+            let first = ByHand::new(outbound.write(b"next")).waits();
+            let others = [(); 2].map(|()| {
+                let outbound = outbound.clone();
+                tokio::spawn(async move { outbound.write(b"next").await.unwrap().await })
+            });
+            // they stand behind it by then
+            tokio::time::sleep(Duration::from_millis(20)).await;
+            let pump = tokio::spawn(pump);
+            for other in others {
+                assert_eq!(other.await.unwrap(), Outcome::Success);
+            }
+            assert_eq!(first.woken(), 1);
+            drop(first);
+            drop(outbound);
+            assert_eq!(pump.await.unwrap().sent, 6);
+        }));
+    }
+}
+
 /// Writes whenever it may, and notes in which round one waited before, and the promise.
 fn tries_to_pass(outbound: &Outbound, waits_in: &AtomicU64, passed: &Mutex<Vec<(u64, u64)>>, over: &AtomicBool) {
     while !over.load(Ordering::SeqCst) {
