@@ -17,8 +17,9 @@ pub(crate) struct Pauses([u64; 6]);
 
 /// Of most calls.
 const SHORT: Pauses = Pauses([2, 4, 8, 16, 16, 16]);
-/// Of those of the thread that sends: what is written meanwhile goes by the same call to the socket.
-const LONG: Pauses = Pauses([30; 6]);
+/// Of those of the thread that sends: if it met one call it goes on behind that; else what is written meanwhile goes by the same
+/// call to the socket.
+const LONG: Pauses = Pauses([2, 30, 30, 30, 30, 30]);
 /// How often it gives its processor away between tries then, before it stands in line.
 const YIELDS: u32 = 12;
 /// How long the first in line sleeps between two tries.
