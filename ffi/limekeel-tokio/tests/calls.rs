@@ -193,6 +193,16 @@ fn who_was_let_in_and_does_not_come_keeps_nobody_asleep() {
 }
 
 #[test]
+fn whose_messages_are_sent_are_told_at_once() {
+    let stream = Memory::new(Within { vectored: true, ..Within::default() });
+    let (outbound, pump) = split(stream, Marks::default()).unwrap();
+    let receipts = [b"one", b"two"].map(|text| ByHand::new(outbound.try_write(text).unwrap()).waits());
+    let mut pump = ByHand::new(pump);
+    assert!(pump.poll().is_pending());
+    assert_eq!(woken_of(&receipts), [1, 1]);
+}
+
+#[test]
 fn those_with_other_work_are_woken_at_once() {
     three_let_in!(pump, stream, writers);
     thread::sleep(Duration::from_millis(1));
