@@ -233,6 +233,37 @@ fn after_slow_ones_fewer_are_woken_one_by_one() {
     assert_eq!(one_by_one, [0, 1, 3, 7, 15, 31, 63, 127, 255, 256, 258, 262, 270, 286]);
 }
 
+/// After slow ones every other sending has all come at once; here it is one that finds some of a chain not woken yet.
+#[test]
+fn who_is_left_of_a_chain_is_woken_after_another_sending() {
+    const BYTES: &[u8] = &[7; 112];
+    let stream = Memory::new(Within { vectored: true, ..Within::default() });
+    let (outbound, pump) = split(stream.clone(), Marks { low: 150, high: 350 }).unwrap();
+    let mut pump = ByHand::new(pump);
+    for _ in 0..4 {
+        drop(outbound.try_write(b"full").unwrap());
+    }
+    let mut slow: Vec<_> = (0..3).map(|_| ByHand::new(outbound.write(b"slow")).waits()).collect();
+    assert!(pump.poll().is_pending());
+    thread::sleep(Duration::from_millis(1));
+    assert!(slow.iter_mut().all(|writer| writer.poll().is_ready()));
+    assert!(pump.poll().is_pending());
+    // none lies behind the one before it, so each goes by a sending of its own: the second lets them in
+    stream.with(|within| within.vectored = false);
+    for bytes in [&BYTES[8..], &BYTES[4..8], &BYTES[..4]] {
+        drop(outbound.try_write(Static(bytes)).unwrap());
+    }
+    let mut waiting: Vec<_> = (0..3).map(|_| ByHand::new(outbound.ready()).waits()).collect();
+    let writes = stream.with(|within| within.writes);
+    assert!(pump.poll().is_pending());
+    assert_eq!(stream.with(|within| within.writes), writes + 3);
+    assert_eq!((woken_of(&waiting), outbound.pending()), (vec![1, 0, 0], 0));
+    drop(waiting.remove(0));
+    assert_eq!(woken_of(&waiting), [1, 0]);
+    assert!(waiting[0].poll().is_ready());
+    assert_eq!(woken_of(&waiting), [1, 1]);
+}
+
 #[test]
 fn what_those_write_who_were_let_in_goes_by_one_write() {
     three_let_in!(pump, stream, writers);
