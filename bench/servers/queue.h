@@ -22,6 +22,10 @@ struct queue {
     struct limekeel_connection connection;
 #endif
     bool writable, broken;
+#ifdef BUDGETED
+    uint64_t since, took; /* what its socket took since then, in milliseconds and bytes, while pressure stood */
+    bool fast;            /* whether it took much in the time before */
+#endif
 #ifdef JOINED
     struct limekeel_rooms rooms;
     uint8_t *at;         /* where the next message is made */
@@ -65,11 +69,12 @@ extern uint64_t queue_stops;
 void queue_share(uint64_t room, uint64_t high, uint64_t quantum);
 
 /* Whether pressure stands, as the last change said; and so whether a response may be made now: the queue is writable and, under
- * pressure, nothing in it waits. */
+ * pressure, nothing in it waits, or its client takes much. */
 extern bool queue_pressed;
+bool queue_is_fast(const struct queue *queue);
 static inline bool queue_may_write(const struct queue *queue)
 {
-    return queue->writable && (!queue_pressed || queue_pending(queue) == 0);
+    return queue->writable && (!queue_pressed || queue_pending(queue) == 0 || queue_is_fast(queue));
 }
 
 /* What all queues hold of the budget, and whether it has room for a message of this size now. */

@@ -1,13 +1,17 @@
 /*
- * The queue of a connection by Limekeel, under one budget for all. While pressure stands a client has one response at a time. A
- * write that finds no room has changed nothing, and epoll_server.c makes it again once there is room.
+ * The queue of a connection by Limekeel, under one budget for all. While pressure stands a client has
+ * one response at a time, unless it takes more in a while than the system keeps for one that reads nothing. A write that finds
+ * no room has changed nothing, and epoll_server.c makes it again once there is room.
  */
 #include "queue_ours.h"
 
 #include <stdio.h>
 #include <stdlib.h>
+#include <time.h>
 
 #define OVERHEAD 96
+#define WHILE 100           /* milliseconds */
+#define MUCH (UINT64_C(1) << 20) /* bytes in that time */
 
 static struct limekeel_budget budget = LIMEKEEL_BUDGET;
 static uint64_t budget_room;
@@ -94,6 +98,30 @@ void queue_shared_end(void)
     limekeel_block_free(&block);
 }
 
+/* Milliseconds; the coarse clock is a load from memory, and told each few milliseconds. */
+static uint64_t now(void)
+{
+    struct timespec time;
+    clock_gettime(CLOCK_MONOTONIC_COARSE, &time);
+    return (uint64_t)time.tv_sec * 1000 + (uint64_t)time.tv_nsec / 1000000;
+}
+
+bool queue_is_fast(const struct queue *queue)
+{
+    return queue->fast && now() - queue->since < 2 * WHILE;
+}
+
+static void note_taken(struct queue *queue, uint64_t bytes)
+{
+    uint64_t time = now(), passed = time - queue->since;
+    queue->took += bytes;
+    if (passed < WHILE)
+        return;
+    queue->fast = passed < 2 * WHILE && queue->took >= MUCH;
+    queue->since = time;
+    queue->took = 0;
+}
+
 enum sent queue_send(struct queue *queue, int socket, uint32_t turns)
 {
     struct limekeel_pressed_flushed flushed = limekeel_budgeted_flush(&queue->connection);
@@ -102,6 +130,8 @@ enum sent queue_send(struct queue *queue, int socket, uint32_t turns)
     struct limekeel_pressed_sent told = limekeel_budgeted_send(&queue->connection, socket, turns);
     note(queue, told.sent.taken.change);
     note_pressure(told.pressure);
+    if (queue_pressed)
+        note_taken(queue, told.sent.bytes);
     return how_it_ended(told.sent);
 }
 
