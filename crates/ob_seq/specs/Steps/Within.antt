@@ -1,18 +1,20 @@
 -- What a call does to what waits, whatever outcomes the messages had that are gone, and what its result says, as the
 -- reply of the model. Each reply goes by the promises as they were before the call. Of public clauses those of
 -- `Contents` cite it, and of the replies those of connections.
-use Rattle.std.specs.Prelude.{◌∷◌, ℕ, Bool, true, false, List, [], if◌then◌else◌, Option, Some, None, Result, Ok, Err, ⊤}
+use Rattle.std.specs.Prelude.{◌≡◌, ◌∷◌, ℕ, Bool, true, false, List, [], if◌then◌else◌, Option, Some, None, Result, Ok, Err, ⊤}
+use Rattle.std.specs.Prelude.{IsErrOf, OnErr}
 use Rattle.ob_types.specs.declared.promise.Outcome.{Outcome}
 use Rattle.ob_types.specs.declared.promise.Outcome.TheVariants.{Cancelled}
 use Rattle.ob_types.specs.declared.promise.PromiseState.{PromiseState}
 use Rattle.ob_types.specs.declared.refusal.Refusal.{Refusal}
+use Rattle.ob_types.specs.declared.refusal.Refusal.TheVariants.{NoMemory}
 use Rattle.ob_types.specs.declared.reply.Answer.TheVariants.{Count, Yes, Done}
 use Rattle.ob_types.specs.declared.reply.Change.{Change}
 use Rattle.ob_types.specs.declared.reply.Reply.{Reply}
 use Rattle.ob_seq.specs.Answer.{told_by}
 use Rattle.ob_seq.specs.Pending.{Pending}
 use Rattle.ob_seq.specs.Steps.Step.{Step, Makes}
-use Rattle.ob_seq.specs.Unsent.{Unsent, whole}
+use Rattle.ob_seq.specs.Unsent.{Unsent, waiting_count, whole}
 use Rattle.ob_seq.specs.declared.contents.take.Front.{Front}
 
 -- a call makes this step, and its result says this; it lets no message go
@@ -21,6 +23,16 @@ abbrev pub MakesWithin : {A : Type 0} → (Pending → Step) → (List PromiseSt
 MakesWithin step tell old result new =
     (gone : List Outcome) → let now = whole gone old in
     Makes now (step now) (told_by (tell now.promises) result) (whole gone new)
+
+-- and nothing else changes: as many messages wait, and the ring has room for as many as before; it does not allocate, and
+-- if it is refused all is as it was
+pub record StepsWithin {A : Type 0} (step : Pending → Step) (tell : List PromiseState → A → Reply) (old : Unsent)
+    (result : Result A Refusal) (new : Unsent) : Type 0 where
+  pub makes : MakesWithin step tell old result new
+  pub as_many : waiting_count new ≡ waiting_count old
+  pub room : new.room ≡ old.room
+  pub frugal : ¬ IsErrOf result NoMemory
+  pub refused : OnErr result (new ≡ old)
 
 -- a call that has nothing to say
 abbrev pub done_reply : List PromiseState → ⊤ → Reply

@@ -1,8 +1,8 @@
-ghost use Rattle.std.specs.Prelude.{◌≡◌, ◌<◌, List, length, true, IsErrOf, OnErr};
+ghost use Rattle.std.specs.Prelude.{◌≡◌, ◌<◌, List, length, true};
 ghost use Rattle.ob_types.specs.declared.promise.Outcome.{Outcome};
 ghost use Rattle.ob_seq.specs.Steps.Commands.{flush_step, next_flushed, reached_entry};
 ghost use Rattle.ob_seq.specs.Steps.Step.{times};
-ghost use Rattle.ob_seq.specs.Steps.Within.{MakesWithin, counted_reply};
+ghost use Rattle.ob_seq.specs.Steps.Within.{StepsWithin, counted_reply};
 ghost use Rattle.ob_seq.specs.Unsent.{whole, pending_entry, waiting_count};
 
 use crate::contents::{Contents, word};
@@ -15,11 +15,7 @@ impl Contents {
     /// Puts all unflushed entries into line, and returns how that changed writability.
     #[inline(always)]
     pub fn flush(&mut self) -> Result<Option<Change>, Refusal>
-        ensures makes { MakesWithin flush_step (counted_reply (length self.old.unflushed)) self.old result self.new }
-        ensures as_many { waiting_count self.new ≡ waiting_count self.old }
-        ensures frugal { ¬ IsErrOf result Refusal.NoMemory }
-        ensures refused { OnErr result (self.new ≡ self.old) }
-        ensures room { self.new.room ≡ self.old.room }
+        ensures { StepsWithin flush_step (counted_reply (length self.old.unflushed)) self.old result self.new }
     {
         if self.closed {
             return Err(Refusal::Closed);
@@ -33,6 +29,7 @@ impl Contents {
     fn flush_all(&mut self)
         ensures after { (gone : List Outcome) →
             whole gone self.new ≡ times (length self.old.unflushed) next_flushed (whole gone self.old) }
+        ensures as_many { waiting_count self.new ≡ waiting_count self.old }
         ensures room { self.new.room ≡ self.old.room }
     {
         if self.any_taken_back {

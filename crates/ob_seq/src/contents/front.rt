@@ -1,11 +1,11 @@
-ghost use Rattle.std.specs.Prelude.{◌≡◌, ◌+◌, ◌<◌, ◌≤◌, List, length, nat_le, IsErrOf, OnErr};
+ghost use Rattle.std.specs.Prelude.{◌≡◌, ◌+◌, ◌<◌, ◌≤◌, List, length, nat_le};
 ghost use Rattle.ob_types.specs.Limits.{greatest_progress};
 ghost use Rattle.ob_types.specs.declared.promise.Outcome.{Outcome};
 ghost use Rattle.ob_seq.specs.Effect.{block_bytes};
 ghost use Rattle.ob_seq.specs.Steps.Step.{first_progress, front_changed};
 ghost use Rattle.ob_seq.specs.Steps.Commands.{progress_step, progressed_entry, first_length, front_skipped};
 ghost use Rattle.ob_seq.specs.Steps.Commands.{skipped_entry};
-ghost use Rattle.ob_seq.specs.Steps.Within.{MakesWithin, done_reply};
+ghost use Rattle.ob_seq.specs.Steps.Within.{StepsWithin, done_reply};
 ghost use Rattle.ob_seq.specs.Unsent.{pending_entries, pending_entry, waiting_count, whole};
 
 use crate::contents::Contents;
@@ -29,11 +29,7 @@ impl Contents {
     /// Adds *n* bytes to the progress of the front.
     #[inline(always)]
     pub fn progress(&mut self, n: u64) -> Result<(), Refusal>
-        ensures makes { MakesWithin (progress_step n) done_reply self.old result self.new }
-        ensures as_many { waiting_count self.new ≡ waiting_count self.old }
-        ensures frugal { ¬ IsErrOf result Refusal.NoMemory }
-        ensures refused { OnErr result (self.new ≡ self.old) }
-        ensures room { self.new.room ≡ self.old.room }
+        ensures { StepsWithin (progress_step n) done_reply self.old result self.new }
     {
         if self.closed {
             return Err(Refusal::Closed);
@@ -63,6 +59,7 @@ impl Contents {
         requires fits { first_progress (pending_entries self.old.line) + n ≤ greatest_progress }
         ensures after { (gone : List Outcome) →
             whole gone self.new ≡ front_changed (progressed_entry n) (whole gone self.old) }
+        ensures as_many { waiting_count self.new ≡ waiting_count self.old }
         ensures room { self.new.room ≡ self.old.room }
     {
         tell(&mut self.entries[0], n);

@@ -1,11 +1,11 @@
 //! The marks in force, and how far the total is from them.
 
-ghost use Rattle.std.specs.Prelude.{◌≡◌, [], IsErrOf, OnErr};
+ghost use Rattle.std.specs.Prelude.{◌≡◌, []};
 ghost use Rattle.ob_seq.specs.Looks.{before_unwritable, before_writable};
 ghost use Rattle.ob_seq.specs.Steps.Commands.{marks_step};
 ghost use Rattle.ob_seq.specs.Steps.Step.{pending_total};
-ghost use Rattle.ob_seq.specs.Steps.Within.{MakesWithin, done_reply};
-ghost use Rattle.ob_seq.specs.Unsent.{waiting_count, whole};
+ghost use Rattle.ob_seq.specs.Steps.Within.{StepsWithin, done_reply};
+ghost use Rattle.ob_seq.specs.Unsent.{whole};
 
 use crate::contents::Contents;
 use ob_types::{Refusal, WaterMark};
@@ -14,11 +14,7 @@ impl Contents {
     /// Puts these marks in force.
     #[inline(always)]
     pub fn set_marks(&mut self, marks: WaterMark) -> Result<(), Refusal>
-        ensures makes { MakesWithin (marks_step marks) done_reply self.old result self.new }
-        ensures as_many { waiting_count self.new ≡ waiting_count self.old }
-        ensures frugal { ¬ IsErrOf result Refusal.NoMemory }
-        ensures refused { OnErr result (self.new ≡ self.old) }
-        ensures room { self.new.room ≡ self.old.room }
+        ensures { StepsWithin (marks_step marks) done_reply self.old result self.new }
     {
         if self.closed {
             return Err(Refusal::Closed);

@@ -1,11 +1,10 @@
 //! The word: its mark, bit 0, and the user bits.
 
-ghost use Rattle.std.specs.Prelude.{◌≡◌, ◌≤◌, ◌==◌, if◌then◌else◌, IsErrOf, OnErr};
+ghost use Rattle.std.specs.Prelude.{◌≡◌, ◌≤◌, ◌==◌, if◌then◌else◌};
 ghost use Rattle.std.specs.Int.{bit_at};
 ghost use Rattle.ob_seq.specs.Steps.Commands.{bit_step, with_user_bit};
 ghost use Rattle.ob_seq.specs.Steps.Step.{word_after_rise, word_after_fall};
-ghost use Rattle.ob_seq.specs.Steps.Within.{MakesWithin, bit_reply};
-ghost use Rattle.ob_seq.specs.Unsent.{waiting_count};
+ghost use Rattle.ob_seq.specs.Steps.Within.{StepsWithin, bit_reply};
 
 use crate::contents::Contents;
 use ob_types::{Change, Refusal, WaterMark};
@@ -17,11 +16,7 @@ impl Contents {
     /// Sets the user bit of this index, or clears it if it is to be writable, and returns how that changed writability.
     #[inline(always)]
     pub fn user_bit(&mut self, index: u32, writable: bool) -> Result<Option<Change>, Refusal>
-        ensures makes { MakesWithin (bit_step index writable) bit_reply self.old result self.new }
-        ensures as_many { waiting_count self.new ≡ waiting_count self.old }
-        ensures frugal { ¬ IsErrOf result Refusal.NoMemory }
-        ensures refused { OnErr result (self.new ≡ self.old) }
-        ensures room { self.new.room ≡ self.old.room }
+        ensures { StepsWithin (bit_step index writable) bit_reply self.old result self.new }
     {
         if self.closed {
             return Err(Refusal::Closed);
