@@ -1,7 +1,6 @@
 //! The memory that copied messages share.
 
-ghost use Rattle.std.specs.Prelude.{◌≡◌, ◌+◌, ◌≤◌, ◌<◌, ◌++◌, length, box_value, IfOk, IfSome, None};
-ghost use Rattle.ob_types.specs.Limits.{greatest_pending_size};
+ghost use Rattle.std.specs.Prelude.{◌≡◌, ◌+◌, ◌≤◌, ◌++◌, length, box_value, IfOk};
 ghost use Rattle.ob_connection.specs.Obeying.{joined};
 
 use bytes::{Bytes, BytesMut};
@@ -163,19 +162,4 @@ fn fill(rest: &mut BytesMut, parts: &[&[u8]])
     for part in parts {
         rest.extend_reserved(part);
     }
-}
-
-/// How many bytes these parts are together, unless no message is so long.
-pub fn length_of(parts: &[&[u8]]) -> Option<usize>
-    ensures some { IfSome result (λ count. count ≡ length (joined parts.now)) }
-    ensures none { result ≡ None → greatest_pending_size < length (joined parts.now) }
-{
-    let mut count: usize = 0;
-    for part in parts {
-        let Some(more) = count.checked_add(part.len()) else {
-            return None;
-        };
-        count = more;
-    }
-    Some(count)
 }

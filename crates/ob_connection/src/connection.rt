@@ -10,6 +10,7 @@ mod sending;
 mod state;
 
 use crate::inner::Inner;
+pub use copying::length_of_parts;
 use ob_types::{Estimate, WaterMark};
 pub use sending::{SendFault, Sent};
 use std::alloc::Global;

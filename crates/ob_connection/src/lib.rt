@@ -13,7 +13,7 @@ mod replies;
 mod socket;
 mod status;
 
-pub use connection::{Connection, SendFault, Sent};
+pub use connection::{Connection, SendFault, Sent, length_of_parts};
 pub use ending::Ending;
 pub use laws::{each_promise_is_settled_once_and_told, the_limit_is_out_of_reach};
 pub use look::Look;

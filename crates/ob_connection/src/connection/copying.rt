@@ -1,6 +1,6 @@
 //! Messages that are written as bytes.
 
-ghost use Rattle.std.specs.Prelude.{◌≡◌, ◌<◌, ℕ, List, length, Some, OnOk};
+ghost use Rattle.std.specs.Prelude.{◌≡◌, ◌<◌, ℕ, List, length, Some, None, IfSome, OnOk};
 ghost use Rattle.ob_types.specs.Limits.{greatest_pending_size};
 ghost use Rattle.ob_types.specs.declared.command.Command.TheVariants.{Write};
 ghost use Rattle.ob_types.specs.declared.message.Message.TheVariants.{Block};
@@ -9,7 +9,6 @@ ghost use Rattle.ob_connection.specs.Connected.{room_in};
 ghost use Rattle.ob_connection.specs.Looks.{Refuses};
 ghost use Rattle.ob_connection.specs.Obeying.{Obeys, joined, written_reply};
 
-use crate::chunk::length_of;
 use crate::connection::Connection;
 use crate::replies::Written;
 use bytes::Bytes;
@@ -39,7 +38,7 @@ impl Connection {
         ensures obeys { Obeys self.old (Write (Block (joined parts.now))) written_reply result self.new }
         ensures room { OnOk result (room_in self.new ≡ room_for_one_more self.old.unsent) }
     {
-        let Some(count) = length_of(parts) else {
+        let Some(count) = length_of_parts(parts) else {
             return Err(self.refusal_of_too_long());
         };
         if let Some(refusal) = self.refusal_of_length(count) {
@@ -67,4 +66,21 @@ impl Connection {
         self.write(Message::Block(block))
             .map_err(|refused| refused.refusal)
     }
+}
+
+/// How many bytes these parts are together, as one block of `Connection::write_parts`, or nothing if that is more than any
+/// message may have and no `usize` holds it. With `refusal_of_length` it tells before such a write why it would be refused.
+/// It goes over the parts and not over their bytes, and does not allocate. Our own.
+pub fn length_of_parts(parts: &[&[u8]]) -> Option<usize>
+    ensures some { IfSome result (λ count. count ≡ length (joined parts.now)) }
+    ensures none { result ≡ None → greatest_pending_size < length (joined parts.now) }
+{
+    let mut count: usize = 0;
+    for part in parts {
+        let Some(more) = count.checked_add(part.len()) else {
+            return None;
+        };
+        count = more;
+    }
+    Some(count)
 }

@@ -1,7 +1,6 @@
 //! Messages that are written as several slices.
 
-ghost use Rattle.std.specs.Prelude.{◌≡◌, ◌<◌, IfSome, None, length};
-ghost use Rattle.ob_types.specs.Limits.{greatest_pending_size};
+ghost use Rattle.std.specs.Prelude.{◌≡◌};
 ghost use Rattle.ob_types.specs.PendingSize.{pending_size_of};
 ghost use Rattle.ob_types.specs.declared.message.Message.TheVariants.{Block};
 ghost use Rattle.ob_connection.specs.Obeying.{joined};
@@ -9,7 +8,7 @@ ghost use Rattle.ob_lifecycle.specs.Writes.{WritesTo};
 
 use super::ManagedConnection;
 use crate::fault::WriteFault;
-use ob_connection::Written;
+use ob_connection::{Written, length_of_parts};
 use ob_types::{Estimate, Refusal, pending_size_of_length};
 
 impl ManagedConnection {
@@ -37,23 +36,8 @@ impl ManagedConnection {
 fn size_of_parts(parts: &[&[u8]], estimate: Estimate) -> Result<u32, Refusal>
     ensures { result ≡ pending_size_of estimate (Block (joined parts.now)) }
 {
-    match length_of(parts) {
+    match length_of_parts(parts) {
         Some(length) => pending_size_of_length(length as u64, estimate),
         None => Err(Refusal::Oversize),
     }
-}
-
-/// How many bytes these parts are together, unless no message is so long.
-fn length_of(parts: &[&[u8]]) -> Option<usize>
-    ensures some { IfSome result (λ count. count ≡ length (joined parts.now)) }
-    ensures none { result ≡ None → greatest_pending_size < length (joined parts.now) }
-{
-    let mut count: usize = 0;
-    for part in parts {
-        let Some(more) = count.checked_add(part.len()) else {
-            return None;
-        };
-        count = more;
-    }
-    Some(count)
 }

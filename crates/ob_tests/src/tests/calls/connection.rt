@@ -2,7 +2,7 @@
 
 use super::{ESTIMATE, four_bytes, marks};
 use bytes::Bytes;
-use ob_connection::Connection;
+use ob_connection::{Connection, length_of_parts};
 use ob_types::{Cause, Message, Refusal};
 use std::alloc::Global;
 use std::io::IoSlice;
@@ -44,10 +44,17 @@ fn a_write_is_refused_before_its_bytes_are_copied(rt: HostRuntime) -> Result<(),
         (
             connection.refusal_of_block(b"four"),
             connection.refusal_of_length(2147483552),
+            length_of_parts(&[b"he", b"", b"ad"]),
             connection.close(Cause(1)).is_ok(),
             connection.refusal_of_block(b"four"),
         ),
-        (None, Some(Refusal::Oversize), true, Some(Refusal::Closed))
+        (
+            None,
+            Some(Refusal::Oversize),
+            Some(4),
+            true,
+            Some(Refusal::Closed)
+        )
     );
     drop(connection);
     Ok(())

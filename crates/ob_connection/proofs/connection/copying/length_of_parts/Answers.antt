@@ -1,6 +1,6 @@
-use Rattle.std.proofs.Common.{arith}
+use Rattle.ob_connection.proofs.Words.{arith}
 use Rattle.ob_connection.proofs.Parts.{more_bytes, no_part}
-use Rattle.ob_lifecycle.proofs.managed.parts.length_of.Goals as goal
+use Rattle.ob_connection.proofs.connection.copying.length_of_parts.Goals as goal
 
 pub returns-in_default-clause-none : goal.returns-in_default-clause-none
 returns-in_default-clause-none c none =
