@@ -2,7 +2,9 @@
 use Rattle.ob_connection.proofs.Words.{◌≡◌, refl, sym, subst, List, true, false, Some, None, Ok, Err, Refusal, Closed}
 use Rattle.ob_connection.proofs.Words.{NoMemory, Reply, PromiseState, Pending, Step, Makes, Past, held, Steps, Connected}
 use Rattle.ob_connection.proofs.Words.{first_of_step, Option, Command, Moves, step_within, Result, OnErr, Unsent, whole, ap, told_by}
-use Rattle.ob_connection.proofs.Words.{connection_limit}
+use Rattle.ob_connection.proofs.Words.{connection_limit, ℕ, ◌+◌, ◌++◌, ◌≤◌, ◌∙◌, arith, length, length-append, map, take, Outcome}
+use Rattle.std.proofs.lemmas.List.{length-map, length-take-le}
+use Rattle.ob_seq.specs.Unsent.{ended}
 use Rattle.ob_seq.proofs.Inside.Made.{makes_refused, makes_taken}
 use Rattle.ob_connection.specs.Becoming.{Becomes, IsFirstRefusal}
 use Rattle.ob_connection.specs.Connected.{room_in, roomed}
@@ -85,6 +87,23 @@ pub becomes_roomed : (step : Pending → Pending) {old : Connected} (now : Conne
     new ≡ roomed (room_in new) now → Becomes step old now → Becomes step old new
 becomes_roomed step {old} now same becomes = subst (λ one. Becomes step old one) (sym same) (λ past.
     let there = becomes past in (record { outcomes = there.0.outcomes; count = there.0.count }, there.1))
+
+-- the first in line leave, and the ring gives room back
+pub becomes_left : (step : Pending → Pending) (outcome : Outcome) (count : ℕ) {inside old new : Connected} (left : Unsent) →
+    inside ≡ old → count ≤ length old.unsent.line →
+    ((past : List Outcome) →
+    whole (past ++ map (ended outcome) (take count inside.unsent.line)) left ≡ step (whole past inside.unsent)) →
+    new ≡ roomed (room_in new) (record { unsent = left; gone = inside.gone + count }) → Becomes step old new
+becomes_left step outcome count {inside} {old} {new} left view few left_is roomed_is =
+    let ends = map (ended outcome) (take count inside.unsent.line) in
+    let many : length ends ≡ count =
+    length-map (take count inside.unsent.line) (ended outcome)
+    ∙ length-take-le count inside.unsent.line (omega (arith, few, ap (λ (one : Connected). length one.unsent.line) view)) in
+    becomes_roomed step (record { unsent = left; gone = inside.gone + count }) roomed_is
+    (subst (λ one. Becomes step one (record { unsent = left; gone = inside.gone + count })) view (λ past. (
+      record { outcomes = past.outcomes ++ ends; count = length-append past.outcomes ends ∙ omega (arith, past.count, many) },
+      left_is past.outcomes,
+    )))
 
 pub steps_roomed : {A : Type 0} {step : Pending → Step} {tell : List PromiseState → A → Reply} {value : A}
     {old : Connected} (now : Connected) {new : Connected} → new ≡ roomed (room_in new) now →

@@ -7,6 +7,7 @@ pub mod EntrySettlements
 pub mod Fields
 pub mod Gathered
 pub mod Held
+pub mod Leaving
 pub mod Looked
 pub mod Made
 pub mod Rooms

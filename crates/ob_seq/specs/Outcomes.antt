@@ -8,9 +8,10 @@ use Rattle.ob_types.specs.declared.promise.Outcome.TheVariants.{Success}
 use Rattle.ob_seq.specs.declared.outcomes.Run.{Run}
 use Rattle.ob_seq.specs.declared.outcomes.Outcomes.TheInside.{Inside}
 
--- outcomes, oldest first, and for how many more there is room, whatever they are
+-- outcomes, oldest first, that of the last run, and for how many more there is room, whatever they are
 pub record Endings : Type 0 where
   pub list : List Outcome
+  pub last : Outcome
   pub room : ℕ
 
 -- the outcome at a place: that of the last run that begins at or before it, or else this one
@@ -32,6 +33,7 @@ outcome_before runs (suc count) before = (slice_index_or runs count (record { fr
 abbrev pub endings_of : Inside → Endings
 endings_of inside = record {
   list = map (outcome_at inside.runs.items) (range_with_len 0 inside.count);
+  last = outcome_before inside.runs.items (length inside.runs.items) Success;
   room = vec_capacity inside.runs - vec_len inside.runs;
 }
 

@@ -1,6 +1,6 @@
 //! What has become of the messages that are gone.
 
-ghost use Rattle.std.specs.Prelude.{◌≡◌, ◌++◌, ◌∷◌, ◌+◌, ◌<◌, ◌≤◌, [], length, slice_index_or, OnOk};
+ghost use Rattle.std.specs.Prelude.{◌≡◌, ◌++◌, ◌∷◌, ◌+◌, ◌<◌, ◌≤◌, [], length, replicate, slice_index_or, OnOk};
 ghost use Rattle.std.specs.List.Sorted.{IsNonDecreasingBy};
 ghost use Rattle.ob_types.specs.Limits.{most_writes};
 ghost use Rattle.ob_types.specs.declared.promise.Outcome.{Outcome as AnOutcome};
@@ -83,6 +83,7 @@ impl Outcomes {
         requires few { length self.old.list < most_writes }
         requires room { 0 < self.old.room }
         ensures list { self.new.list ≡ self.old.list ++ outcome ∷ [] }
+        ensures last { self.new.last ≡ outcome }
         ensures room { self.old.room ≤ self.new.room + 1 }
     {
         if outcome != outcome_before(&self.runs, self.runs.len()) {
@@ -92,6 +93,28 @@ impl Outcomes {
             });
         }
         self.count += 1;
+    }
+
+    /// Adds as many as `count` of one outcome after the others, for which there is room. It does not go over them.
+    pub fn push_all(&mut self, outcome: Outcome, count: usize)
+        requires few { length self.old.list + count ≤ most_writes }
+        requires room { count ≤ self.old.room }
+        ensures list { self.new.list ≡ self.old.list ++ replicate count outcome }
+        ensures room { self.old.room ≤ self.new.room + count }
+    {
+        if count > 0 {
+            self.push(outcome);
+            self.lengthen(count - 1);
+        }
+    }
+
+    /// Adds *n* to the last run.
+    fn lengthen(&mut self, n: usize)
+        requires { length self.old.list + n ≤ most_writes }
+        ensures list { self.new.list ≡ self.old.list ++ replicate n self.old.last }
+        ensures room { self.new.room ≡ self.old.room }
+    {
+        self.count += n;
     }
 }
 

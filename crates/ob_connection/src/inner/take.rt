@@ -1,6 +1,6 @@
 //! Calls that take several messages away.
 
-ghost use Rattle.std.specs.Prelude.{◌≡◌, ◌<◌, ◌≤◌, ◌+◌, ◌-◌, length, drop, false, OnOk, IsOk, IsErrOf};
+ghost use Rattle.std.specs.Prelude.{◌≡◌, ◌≤◌, ◌+◌, ◌-◌, length, drop, false, OnOk, IsOk, IsErrOf};
 ghost use Rattle.ob_types.specs.declared.command.Command.TheVariants.{RemoveBytes, FailFlushed, Close};
 ghost use Rattle.ob_types.specs.Change.{change_between};
 ghost use Rattle.ob_types.specs.declared.promise.Outcome.{Outcome};
@@ -10,7 +10,7 @@ ghost use Rattle.ob_seq.specs.Steps.Commands.{front_taken, bytes_removed, first_
 ghost use Rattle.ob_seq.specs.Unsent.{pending_entries};
 ghost use Rattle.ob_connection.specs.Becoming.{Becomes, FailsAll, HasNoLine, Moves};
 ghost use Rattle.ob_connection.specs.Obeying.{IsNext, IsQuiet, taken_reply};
-ghost use Rattle.ob_connection.specs.Connected.{KeepsRoom, TakesNoRoom, room_in};
+ghost use Rattle.ob_connection.specs.Connected.{TakesNoRoom, room_in};
 
 use crate::inner::Inner;
 use crate::replies::Taken;
@@ -108,8 +108,9 @@ impl Inner {
         ensures gone { self.new.gone ≡ self.old.gone + cut.whole }
         ensures room { TakesNoRoom self.old self.new }
     {
-        self.take_first(cut.whole, true);
-        self.contents.skip_in_front(cut.rest);
+        self.contents.take_cut(cut);
+        self.gone += cut.whole as u64;
+        self.give_back();
     }
 
     /// Takes the first `count` in line away. Without notice the word stays.
@@ -119,21 +120,9 @@ impl Inner {
         ensures gone { self.new.gone ≡ self.old.gone + count }
         ensures room { TakesNoRoom self.old self.new }
     {
-        for _ in 0..count {
-            self.take_front(notice);
-        }
+        self.contents.take_first(count, notice);
+        self.gone += count as u64;
         self.give_back();
-    }
-
-    /// Takes the first in line away. Without notice the word stays.
-    fn take_front(&mut self, notice: bool)
-        requires { 0 < length self.old.unsent.line }
-        ensures becomes { (outcome : Outcome) → Becomes (front_taken notice outcome) self.old self.new }
-        ensures gone { self.new.gone ≡ self.old.gone + 1 }
-        ensures room { KeepsRoom self.old self.new }
-    {
-        self.contents.take_front(notice);
-        self.gone += 1;
     }
 
     /// What was taken away since the word and the number of messages that were gone were these.

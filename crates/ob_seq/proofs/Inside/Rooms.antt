@@ -45,6 +45,20 @@ taken_waiting notice outcome left old new is =
     let kept = set_by (is_first_voided held.line) held.promises (front_id held) (Settled outcome) in
     omega (arith, promises_there (left ∷ []) new, promises_there [] old)
 
+-- as many fewer wait when several are
+taken_promises : (notice : Bool) (outcome : Outcome) (n : ℕ) (old : Pending) →
+    length (times n (front_taken notice outcome) old).promises ≡ length old.promises
+taken_promises notice outcome zero old = refl
+taken_promises notice outcome (suc n) old =
+    let now = times n (front_taken notice outcome) old in
+    set_by (is_first_voided now.line) now.promises (front_id now) (Settled outcome) ∙ taken_promises notice outcome n old
+
+pub fewer_waiting : (notice : Bool) (outcome : Outcome) (n : ℕ) (left : List Outcome) (old new : Unsent) → length left ≡ n →
+    whole left new ≡ times n (front_taken notice outcome) (whole [] old) → waiting_count new + n ≡ waiting_count old
+fewer_waiting notice outcome n left old new many is =
+    let same = ap (λ (one : Pending). length one.promises) is in
+    omega (arith, many, same, taken_promises notice outcome n (whole [] old), promises_there left new, promises_there [] old)
+
 pub skipped_promises : (n : ℕ) (old : Pending) → length (front_skipped n old).promises ≡ length old.promises
 skipped_promises n old = grind (arith, nat_tests)
 

@@ -1,7 +1,7 @@
 -- The outcomes that runs give.
-use Rattle.std.specs.Prelude.{◌≢◌}
+use Rattle.std.specs.Prelude.{◌≢◌, replicate}
 use Rattle.ob_seq.proofs.Words.{◌≡◌, Bool, ltb, ℕ, zero, suc, ◌+◌, ◌<◌, ◌≤◌, ◌-◌, List, [], ◌∷◌, ◌++◌, length, map, get_or, leb, true, false}
-use Rattle.ob_seq.proofs.Words.{refl, sym, ap, ◌∙◌, arith, range_with_len, Outcome, Success, cond, nat_tests}
+use Rattle.ob_seq.proofs.Words.{refl, sym, ap, ◌∙◌, arith, range_with_len, Outcome, Success, cond, nat_tests, add-zero, append-nil, append_assoc}
 use Rattle.std.proofs.lemmas.List.{get_or_append_left, get_or_default, get_or_push, length_push}
 use Rattle.std.proofs.lemmas.List.Sorted.{IsNonDecreasingBy-push}
 use Rattle.std.specs.List.Sorted.{IsNonDecreasingBy}
@@ -56,6 +56,18 @@ told_on runs count outcome begun same =
     map-range_with_len_more (outcome_at runs) 0 count count (omega arith)
     ∙ ap (λ one. map (outcome_at runs) (range_with_len 0 count) ++ one ∷ []) (last ∙ sym same)
 
+-- as many more as *n*
+pub told_longer : (runs : List Run) (count n : ℕ) (outcome : Outcome) →
+    ((i : ℕ) (other : Run) → i < length runs → (get_or runs i other).from ≤ count) →
+    outcome ≡ outcome_before runs (length runs) Success →
+    map (outcome_at runs) (range_with_len 0 (count + n)) ≡ map (outcome_at runs) (range_with_len 0 count) ++ replicate n outcome
+told_longer runs count zero outcome begun same = rw (add-zero, append-nil) refl
+told_longer runs count (suc n) outcome begun same =
+    let size : count + suc n ≡ (count + 1) + n = omega arith in
+    rw size (told_longer runs (count + 1) n outcome (λ i other some. let here = begun i other some in omega arith) same
+    ∙ ap (λ all. all ++ replicate n outcome) (told_on runs count outcome begun same)
+    ∙ append_assoc (map (outcome_at runs) (range_with_len 0 count)) (outcome ∷ []) (replicate n outcome))
+
 -- one more message with a run of its own
 pub told_anew : (runs : List Run) (run : Run) (count : ℕ) → run.from ≡ count →
     map (outcome_at (runs ++ run ∷ [])) (range_with_len 0 (count + 1))
@@ -106,6 +118,12 @@ before_last : (runs : List Run) (run : Run) (before : Outcome) →
 before_last runs run before =
     ap (λ (one : Run). one.outcome)
     (get_or_push runs run (record { from = 0; outcome = before }) (length runs) refl)
+
+pub last_more : (runs : List Run) (run : Run) →
+    outcome_before (runs ++ run ∷ []) (length (runs ++ run ∷ [])) Success ≡ run.outcome
+last_more runs run =
+    let size : length (runs ++ run ∷ []) ≡ suc (length runs) = omega (arith, length_push runs run) in
+    ap (λ count. outcome_before (runs ++ run ∷ []) count Success) size ∙ before_last runs run Success
 
 differ_at : (runs : List Run) (run : Run) → run.outcome ≢ outcome_before runs (length runs) Success →
     ((place : ℕ) → place < length runs → outcome_before runs (suc place) Success ≢ outcome_before runs place Success) →

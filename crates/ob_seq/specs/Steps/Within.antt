@@ -1,10 +1,10 @@
 -- What a call does to what waits, whatever outcomes the messages had that are gone, and what its result says, as the
 -- reply of the model. Each reply goes by the promises as they were before the call. Of public clauses those of
 -- `Contents` cite it, and of the replies those of connections.
-use Rattle.std.specs.Prelude.{◌≡◌, ◌∷◌, ℕ, Bool, true, false, List, [], if◌then◌else◌, Option, Some, None, Result, Ok, Err, ⊤}
-use Rattle.std.specs.Prelude.{IsErrOf, OnErr}
+use Rattle.std.specs.Prelude.{◌≡◌, ◌+◌, ◌++◌, ◌∷◌, ℕ, Bool, true, false, List, [], if◌then◌else◌, Option, Some, None, Result, Ok, Err, ⊤}
+use Rattle.std.specs.Prelude.{IsErrOf, OnErr, map, take}
 use Rattle.ob_types.specs.declared.promise.Outcome.{Outcome}
-use Rattle.ob_types.specs.declared.promise.Outcome.TheVariants.{Cancelled}
+use Rattle.ob_types.specs.declared.promise.Outcome.TheVariants.{Cancelled, Success}
 use Rattle.ob_types.specs.declared.promise.PromiseState.{PromiseState}
 use Rattle.ob_types.specs.declared.refusal.Refusal.{Refusal}
 use Rattle.ob_types.specs.declared.refusal.Refusal.TheVariants.{NoMemory}
@@ -13,8 +13,10 @@ use Rattle.ob_types.specs.declared.reply.Change.{Change}
 use Rattle.ob_types.specs.declared.reply.Reply.{Reply}
 use Rattle.ob_seq.specs.Answer.{told_by}
 use Rattle.ob_seq.specs.Pending.{Pending}
-use Rattle.ob_seq.specs.Steps.Step.{Step, Makes}
-use Rattle.ob_seq.specs.Unsent.{Unsent, waiting_count, whole}
+use Rattle.ob_seq.specs.Steps.Commands.{bytes_removed, front_taken}
+use Rattle.ob_seq.specs.Steps.Step.{Step, Makes, times}
+use Rattle.ob_seq.specs.Unsent.{Unsent, ended, waiting_count, whole}
+use Rattle.ob_seq.specs.declared.contents.cut.Cut.{Cut}
 use Rattle.ob_seq.specs.declared.contents.take.Front.{Front}
 
 -- a call makes this step, and its result says this; it lets no message go
@@ -33,6 +35,21 @@ pub record StepsWithin {A : Type 0} (step : Pending → Step) (tell : List Promi
   pub room : new.room ≡ old.room
   pub frugal : ¬ IsErrOf result NoMemory
   pub refused : OnErr result (new ≡ old)
+
+-- `count` fronts are taken away, whatever outcome they leave with: one that was voided ended as cancelled
+pub record TakesFirst (count : ℕ) (notice : Bool) (old new : Unsent) : Type 0 where
+  pub taken : (gone : List Outcome) (outcome : Outcome) →
+      whole (gone ++ map (ended outcome) (take count old.line)) new
+      ≡ times count (front_taken notice outcome) (whole gone old)
+  pub fewer : waiting_count new + count ≡ waiting_count old
+  pub room : new.room ≡ old.room
+
+-- the fronts are taken away that a removal of bytes takes which ends there, and bytes are skipped of the next one
+pub record TakesCut (cut : Cut) (old new : Unsent) : Type 0 where
+  pub taken : (gone : List Outcome) →
+      whole (gone ++ map (ended Success) (take cut.whole old.line)) new ≡ bytes_removed cut (whole gone old)
+  pub fewer : waiting_count new + cut.whole ≡ waiting_count old
+  pub room : new.room ≡ old.room
 
 -- a call that has nothing to say
 abbrev pub done_reply : List PromiseState → ⊤ → Reply

@@ -1,14 +1,15 @@
-ghost use Rattle.std.specs.Prelude.{◌≡◌, ◌<◌, ◌+◌, ◌++◌, ◌∷◌, [], not, List, length, map, if◌then◌else◌, IsErrOf, OnErr};
+ghost use Rattle.std.specs.Prelude.{◌≡◌, ◌<◌, ◌≤◌, ◌+◌, ◌++◌, ◌∷◌, [], not, List, length, map, drop, if◌then◌else◌};
+ghost use Rattle.std.specs.Prelude.{IsErrOf, OnErr};
 ghost use Rattle.ob_types.specs.declared.promise.Cause.{Cause};
 ghost use Rattle.ob_types.specs.declared.promise.Outcome.{Outcome};
 ghost use Rattle.ob_types.specs.declared.promise.Outcome.TheVariants.{Cancelled, Failed};
 ghost use Rattle.ob_seq.specs.Answer.{told_by};
 ghost use Rattle.ob_seq.specs.Steps.Step.{is_first_voided, Makes};
-ghost use Rattle.ob_seq.specs.Steps.Commands.{closed_pending, front_taken, removal_step};
-ghost use Rattle.ob_seq.specs.Steps.Within.{front_endings, front_reply};
+ghost use Rattle.ob_seq.specs.Steps.Commands.{closed_pending, first_length, front_taken, removal_step};
+ghost use Rattle.ob_seq.specs.Steps.Within.{TakesCut, TakesFirst, front_endings, front_reply};
 ghost use Rattle.ob_seq.specs.Unsent.{ended, pending_entries, waiting_count, whole};
 
-use crate::contents::{Contents, word};
+use crate::contents::{Contents, Cut, word};
 use ob_types::{Change, Refusal};
 
 /// The front that a removal took away.
@@ -63,6 +64,26 @@ impl Contents {
         self.total -= entry.size;
         self.word = word::after_removal(self.marks, self.word, entry.size, self.total, notice);
         !entry.taken_back
+    }
+
+    /// Takes the first `count` in line away. Without notice the word stays.
+    pub fn take_first(&mut self, count: usize, notice: bool)
+        requires { count ≤ length self.old.line }
+        ensures { TakesFirst count notice self.old self.new }
+    {
+        for _ in 0..count {
+            self.take_front(notice);
+        }
+    }
+
+    /// Takes away what a removal of bytes does that ends there.
+    pub fn take_cut(&mut self, cut: Cut)
+        requires whole { cut.whole ≤ length self.old.line }
+        requires rest { cut.rest ≤ first_length (drop cut.whole (pending_entries self.old.line)) }
+        ensures { TakesCut cut self.old self.new }
+    {
+        self.take_first(cut.whole, true);
+        self.skip_in_front(cut.rest);
     }
 
     /// Takes all entries away, and closes; nothing stands in line.

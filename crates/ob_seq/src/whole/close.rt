@@ -5,9 +5,8 @@ ghost use Rattle.ob_seq.specs.Unsent.{ended, waiting_count};
 ghost use Rattle.ob_seq.specs.Steps.Step.{Makes, SparesFew, unflushed_id};
 ghost use Rattle.ob_seq.specs.Steps.Commands.{closed_pending, closing_step, failures};
 
-use crate::contents::Contents;
-use crate::outcomes::Outcomes;
 use crate::whole::Whole;
+use crate::whole::take::push_ended;
 use ob_types::{Answer, Cause, Outcome, Refusal, Reply, Settlements};
 use std::alloc::AllocError;
 
@@ -34,7 +33,12 @@ impl Whole {
         requires { length self.old.line ≡ 0 }
         ensures { self.new ≡ closed_pending cause self.old }
     {
-        push_ended(&mut self.gone, &self.contents, cause);
+        push_ended(
+            &mut self.gone,
+            &self.contents,
+            self.contents.count(),
+            Outcome::Failed(cause),
+        );
         self.contents.shut();
     }
 
@@ -49,22 +53,5 @@ impl Whole {
         let count = self.contents.count();
         self.contents
             .settlements(self.gone.len(), count, Outcome::Failed(cause))
-    }
-}
-
-/// Adds the outcomes of entries that no flush has reached when a close fails them, for which there is room.
-fn push_ended(gone: &mut Outcomes, contents: &Contents, cause: Cause)
-    requires unreached { length contents.now.line ≡ 0 }
-    requires few { length gone.old.list + waiting_count contents.now ≤ most_writes }
-    requires room { waiting_count contents.now ≤ gone.old.room }
-    ensures list { gone.new.list ≡ gone.old.list ++ map (ended (Failed cause)) contents.now.unflushed }
-    ensures room { gone.old.room ≤ gone.new.room + waiting_count contents.now }
-{
-    for place in 0..contents.count() {
-        gone.push(if contents.is_taken_back(place) {
-            Outcome::Cancelled
-        } else {
-            Outcome::Failed(cause)
-        });
     }
 }

@@ -1,10 +1,14 @@
 //! Calls that take several messages away.
 
-ghost use Rattle.std.specs.Prelude.{◌≡◌, ◌<◌, ◌≤◌, length, take, IsOk, IfOk};
-ghost use Rattle.ob_types.specs.Limits.{inline_settlements};
-ghost use Rattle.ob_seq.specs.Steps.Commands.{bytes_step, entry_settlements, failing_step, front_taken};
+ghost use Rattle.std.specs.Prelude.{◌≡◌, ◌≤◌, ◌+◌, ◌++◌, length, map, take, drop, IsOk, IfOk};
+ghost use Rattle.ob_types.specs.Limits.{inline_settlements, most_writes};
+ghost use Rattle.ob_seq.specs.Steps.Commands.{bytes_removed, bytes_step, entry_settlements, failing_step, first_length};
+ghost use Rattle.ob_seq.specs.Steps.Commands.{front_taken};
 ghost use Rattle.ob_seq.specs.Steps.Step.{Makes, SparesFew, front_id, times};
+ghost use Rattle.ob_seq.specs.Unsent.{ended, waiting_count};
 
+use crate::contents::{Contents, Cut};
+use crate::outcomes::Outcomes;
 use crate::whole::Whole;
 use ob_types::{Answer, Cause, Outcome, Refusal, Reply, Settlements};
 use std::alloc::AllocError;
@@ -38,8 +42,7 @@ impl Whole {
         };
         let settled = self.settlements(cut.whole, Outcome::Success)?;
         let before = self.word();
-        self.take_first(cut.whole, Outcome::Success, true);
-        self.contents.skip_in_front(cut.rest);
+        self.take_cut(cut);
         Ok(self.reply(Answer::Count(cut.whole as u32), settled, before))
     }
 
@@ -55,23 +58,47 @@ impl Whole {
         self.contents.settlements(self.gone.len(), count, outcome)
     }
 
-    /// Takes the first `count` in line away, as `take_front`.
+    /// Takes the first `count` in line away, and settles each promise that was not taken back. Without notice the word
+    /// stays.
     fn take_first(&mut self, count: usize, outcome: Outcome, notice: bool)
         requires { count ≤ length self.old.line }
         ensures { self.new ≡ times count (front_taken notice outcome) self.old }
     {
-        for _ in 0..count {
-            self.take_front(outcome, notice);
-        }
+        push_ended(&mut self.gone, &self.contents, count, outcome);
+        self.contents.take_first(count, notice);
     }
 
-    /// Takes the front away, and settles its promise unless it was voided. Without notice the word stays.
-    fn take_front(&mut self, outcome: Outcome, notice: bool)
-        requires { 0 < length self.old.line }
-        ensures { self.new ≡ front_taken notice outcome self.old }
+    /// Takes away what a removal of bytes does that ends there.
+    fn take_cut(&mut self, cut: Cut)
+        requires whole { cut.whole ≤ length self.old.line }
+        requires rest { cut.rest ≤ first_length (drop cut.whole self.old.line) }
+        ensures { self.new ≡ bytes_removed cut self.old }
     {
-        let settles = self.contents.take_front(notice);
-        self.gone
-            .push(if settles { outcome } else { Outcome::Cancelled });
+        push_ended(&mut self.gone, &self.contents, cut.whole, Outcome::Success);
+        self.contents.take_cut(cut);
+    }
+}
+
+/// Adds the outcomes of the first `count` entries if they leave with this one, for which there is room. It goes over them
+/// one by one only if a promise of them was taken back.
+pub(super) fn push_ended(gone: &mut Outcomes, contents: &Contents, count: usize, outcome: Outcome)
+    requires some { count ≤ waiting_count contents.now }
+    requires few { length gone.old.list + count ≤ most_writes }
+    requires room { count ≤ gone.old.room }
+    ensures list { gone.new.list
+        ≡ gone.old.list ++ map (ended outcome) (take count (contents.now.line ++ contents.now.unflushed)) }
+    ensures len { length gone.new.list ≡ length gone.old.list + count }
+    ensures room { gone.old.room ≤ gone.new.room + count }
+{
+    if contents.to_settle_count(count) == count {
+        gone.push_all(outcome, count);
+        return;
+    }
+    for place in 0..count {
+        gone.push(if contents.is_taken_back(place) {
+            Outcome::Cancelled
+        } else {
+            outcome
+        });
     }
 }

@@ -1,13 +1,9 @@
-use Rattle.ob_seq.proofs.Words.{◌≡◌, Bool, not, List, ◌∷◌, sym, ap, ◌∙◌, arith, Settings, Entry, Outcome}
-use Rattle.ob_seq.proofs.Words.{Cancelled, take, drop, whole, front_taken, Unsent, counted, if◌then◌else◌}
+use Rattle.ob_seq.proofs.Words.{◌≡◌, List, ◌∷◌, sym, ap, ◌∙◌, arith, Settings, Entry}
+use Rattle.ob_seq.proofs.Words.{take, drop, whole, front_taken, Unsent, counted}
 use Rattle.ob_seq.proofs.Inside.Fields.{line_count}
+use Rattle.ob_seq.proofs.Inside.Leaving.{ends_as}
 use Rattle.ob_seq.proofs.Inside.States.{kept_taken, unsent_from}
 use Rattle.ob_seq.proofs.contents.Contents.take_front.Goals as goal
-
--- how a promise ends, by whether the removal settles it
-ends_as : (flag : Bool) (outcome : Outcome) →
-    (if not flag then outcome else Cancelled) ≡ (if flag then Cancelled else outcome)
-ends_as flag outcome = grind arith
 
 pub returns-clause-taken : goal.returns-clause-taken
 returns-clause-taken c gone outcome =

@@ -1,18 +1,13 @@
-use Rattle.ob_seq.proofs.Words.{length, length-append, length-map, ended, ap, ◌∙◌, arith, closed_pending, Failed}
+use Rattle.ob_seq.proofs.Words.{◌≡◌, ◌++◌, List, length, length-map, ap, ◌∙◌, arith, closed_pending, pending_entry, Failed, Outcome, Pending}
+use Rattle.ob_seq.proofs.Inside.Leaving.{all_unflushed}
 use Rattle.ob_seq.proofs.whole.Whole.close_with.Goals as goal
 
 pub returns : goal.returns
 returns c =
-    rw c.push_ended.ensures.list
-    (c.shut.ensures.closed c.self.inside.gone.list c.args.cause ∙ ap (closed_pending c.args.cause) c.self.view_is)
-
-pub invariant_of-self : goal.invariant_of-self
-invariant_of-self c =
+    let old = c.self.inside.contents in
     let gone = c.self.inside.gone.list in
-    let unflushed = c.self.inside.contents.unflushed in
-    let pushed = c.push_ended.ensures in
-    let all = ap length pushed.list ∙ length-append gone _ in
-    let new = length-map unflushed (ended (Failed c.args.cause)) in record {
-      few_writes = omega (arith, all, new, c.shut.ensures.none, c.self.invariant.few_writes);
-      room = omega (arith, c.shut.ensures.none, c.self.invariant.room);
-    }
+    let empty : length old.line ≡ 0 =
+    omega (arith, c.requires, ap (λ (held : Pending). length held.line) c.self.view_is, length-map old.line pending_entry) in
+    let pushed = c.push_ended.ensures.list ∙ ap (λ (left : List Outcome). gone ++ left)
+    (all_unflushed (Failed c.args.cause) c.count.result old.line old.unflushed empty c.count.ensures) in
+    rw pushed (c.shut.ensures.closed gone c.args.cause ∙ ap (closed_pending c.args.cause) c.self.view_is)

@@ -1,0 +1,15 @@
+use Rattle.ob_seq.proofs.Words.{◌≤◌, ◌++◌, List, length, length-map, ap, ◌∙◌, arith, pending_entry, Outcome, Pending, Success}
+use Rattle.ob_seq.specs.Steps.Commands.{bytes_removed}
+use Rattle.ob_seq.proofs.Inside.Leaving.{first_in_line}
+use Rattle.ob_seq.proofs.whole.Whole.take_cut.Goals as goal
+
+pub returns : goal.returns
+returns c =
+    let old = c.self.inside.contents in
+    let gone = c.self.inside.gone.list in
+    let cut = c.args.cut in
+    let few : cut.whole ≤ length old.line =
+    omega (arith, c.requires.whole, ap (λ (held : Pending). length held.line) c.self.view_is, length-map old.line pending_entry) in
+    let pushed = c.push_ended.ensures.list ∙ ap (λ (left : List Outcome). gone ++ left)
+    (first_in_line Success cut.whole old.line old.unflushed few) in
+    rw pushed (c.take_cut.ensures.taken gone ∙ ap (bytes_removed cut) c.self.view_is)
