@@ -5,7 +5,6 @@ use Rattle.ob_types.specs.WaterMark.{Marks}
 use Rattle.ob_types.specs.declared.promise.PromiseState.{PromiseState}
 use Rattle.ob_types.specs.declared.command.Command.{Command}
 use Rattle.ob_types.specs.Traits.{traits_of}
-use Rattle.ob_types.specs.declared.message.Message.{Message}
 use Rattle.ob_types.specs.declared.promise.PromiseId.{PromiseId}
 use Rattle.ob_types.specs.declared.reply.Reply.{Reply}
 use Rattle.ob_types.specs.declared.refusal.Refusal.{Refusal}
@@ -13,15 +12,13 @@ use Rattle.ob_types.specs.declared.refusal.Refusal.TheVariants.{NoMemory}
 use Rattle.ob_types.specs.Limits.{inline_settlements}
 use Rattle.ob_types.specs.declared.promise.Outcome.{Outcome}
 use Rattle.ob_seq.specs.Rows.{Settings, line, unflushed}
-use Rattle.ob_seq.specs.Looks.{PendingEntry, entry_of, look_after, promise_after, current_after, front_promise_after}
-use Rattle.ob_seq.specs.Looks.{flushed_after, gathered_after}
+use Rattle.ob_seq.specs.Looks.{PendingEntry, entry_of}
 use Rattle.ob_seq.specs.Mark.{marks_after}
 use Rattle.ob_seq.specs.Effect.{rows_after}
 use Rattle.ob_seq.specs.State.{is_closed}
 use Rattle.ob_seq.specs.Word.{word_after}
 use Rattle.ob_seq.specs.Answer.{answer_to, commands_with, is_accepted, are_accepted, answer_within, buffer_limit}
 use Rattle.ob_seq.specs.Answer.{commands_after_within}
-use Rattle.ob_seq.specs.declared.look.Look.{Look}
 
 -- what a buffer holds: what it was opened with, the marks in force, the entries in line and those that no flush has
 -- reached, each oldest first, the state of each promise that it ever gave, the word, and whether it is closed
@@ -76,31 +73,6 @@ pub record Obeys (old : Pending) (command : Command) (result : Result Reply Refu
   pub settings : new.settings ≡ old.settings
   pub refused : OnErr result (new ≡ old)
   pub no_memory_last : IsErrOf result NoMemory → Accepts old command
-
--- whatever history the buffer stands for, the look is the look after it
-abbrev pub Shows : Pending → Look → Type 0
-Shows buffer look = Gives buffer look_after look
-
--- whatever history the buffer stands for, this is what has become of the promise after it
-abbrev pub Tells : Pending → PromiseId → Option PromiseState → Type 0
-Tells buffer id state = Gives buffer (λ settings commands. promise_after settings commands id) state
-
--- whatever history the buffer stands for, this is the unread part of the front after it
-abbrev pub IsCurrent : Pending → Option Message → Type 0
-IsCurrent buffer message = Gives buffer current_after message
-
--- whatever history the buffer stands for, this is the promise of the front after it
-abbrev pub IsFrontPromise : Pending → Option PromiseId → Type 0
-IsFrontPromise buffer id = Gives buffer front_promise_after id
-
--- whatever history the buffer stands for, these are the unread parts of the flushed messages after it
-abbrev pub AreFlushed : Pending → List Message → Type 0
-AreFlushed buffer messages = Gives buffer flushed_after messages
-
--- whatever history the buffer stands for, these blocks are what is gathered after it
-abbrev pub AreGathered : Pending → ℕ → ℕ → List (List ℕ) → Type 0
-AreGathered buffer max_count max_bytes blocks =
-    Gives buffer (λ settings commands. gathered_after settings commands max_count max_bytes) blocks
 
 -- whether a command never runs out of memory
 abbrev pub takes_no_memory : Command → Bool

@@ -3,9 +3,8 @@
 ghost use Rattle.std.specs.Option.{option_copied};
 ghost use Rattle.std.specs.Prelude.{◌≡◌, [], List, IfOk, IfErr, IsOk};
 ghost use Rattle.ob_types.specs.declared.command.Command.{Command};
-ghost use Rattle.ob_seq.specs.Looks.{gathered_after};
-ghost use Rattle.ob_seq.specs.Pending.{AreFlushed, AreGathered, Gives, IsCurrent, IsFrontPromise, Settles, Shows};
-ghost use Rattle.ob_seq.specs.Pending.{StandsFor, Tells};
+ghost use Rattle.ob_seq.specs.Looks.{current_after, flushed_after, front_promise_after, gathered_after, look_after, promise_after};
+ghost use Rattle.ob_seq.specs.Pending.{Gives, Settles, StandsFor};
 ghost use Rattle.ob_seq.specs.State.{writable_after, empty_after, closed_after, user_writable_after, writes_left_after};
 
 use crate::buffer::Buffer;
@@ -19,7 +18,7 @@ use ob_types::{Command, Message, PromiseId, PromiseState, Refusal};
 impl Buffer {
     /// What is pending now. It changes nothing, takes the same few steps whatever is pending, and does not allocate.
     pub fn look(&self) -> Look
-        ensures { Shows self.now result }
+        ensures { Gives self.now look_after result }
     {
         let contents = &self.contents;
         Look {
@@ -82,7 +81,7 @@ impl Buffer {
     /// What has become of a promise, or nothing if no write was accepted under the id. It takes the same few steps
     /// whatever is pending, at most 20 more if the message is gone, and does not allocate.
     pub fn promise(&self, id: PromiseId) -> Option<PromiseState>
-        ensures { Tells self.now id result }
+        ensures { Gives self.now (λ settings commands. promise_after settings commands id) result }
     {
         let contents = &self.contents;
         let at = id.0 as usize;
@@ -96,7 +95,7 @@ impl Buffer {
     /// What is left of the first flushed message: the unread part of a block, which is empty if the message was voided
     /// (Netty's `current`). It takes the same few steps whatever is pending, and does not allocate.
     pub fn current(&self) -> Option<&Message>
-        ensures { IsCurrent self.now (option_copied result) }
+        ensures { Gives self.now current_after (option_copied result) }
     {
         self.contents.current()
     }
@@ -105,7 +104,7 @@ impl Buffer {
     /// A removal settles it next, unless the message was voided. Netty keeps it in the entry of `current()`. It takes
     /// the same few steps whatever is pending, and does not allocate.
     pub fn front(&self) -> Option<PromiseId>
-        ensures { IsFrontPromise self.now result }
+        ensures { Gives self.now front_promise_after result }
     {
         let contents = &self.contents;
         if contents.line_count() == 0 {
@@ -117,7 +116,7 @@ impl Buffer {
     /// What is left of each flushed message that was not voided, oldest first (Netty's `forEachFlushedMessage`). It
     /// does not allocate, and the iterator goes over what it gives and over the voided messages that it passes.
     pub fn flushed(&self) -> Flushed<'_>
-        ensures { AreFlushed self.now result }
+        ensures { Gives self.now flushed_after result }
     {
         self.contents.to_send()
     }
@@ -140,7 +139,8 @@ impl Buffer {
     /// `NoMemory` comes only if the allocator refused or a block has more owners than can be counted, and never if
     /// nothing is gathered.
     pub fn gather(&self, max_count: u32, max_bytes: u32) -> Result<Vec<Bytes>, Refusal>
-        ensures blocks { IfOk result (λ blocks. AreGathered self.now max_count max_bytes blocks.items) }
+        ensures blocks { IfOk result (λ blocks.
+            Gives self.now (λ settings commands. gathered_after settings commands max_count max_bytes) blocks.items) }
         ensures no_memory { IfErr result (λ refusal. refusal ≡ Refusal.NoMemory) }
         ensures frugal { (commands : List Command) → StandsFor self.now commands
             → gathered_after self.now.settings commands max_count max_bytes ≡ [] → IsOk result }
