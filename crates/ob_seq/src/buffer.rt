@@ -16,16 +16,16 @@ use std::marker::Model;
 /// `ChannelOutboundBuffer`), for one thread.
 #[derive(Debug, Drop)]
 pub struct Buffer {
-    contents: Whole,
+    whole: Whole,
 }
 
 /// Each buffer holds what some list of accepted commands leaves.
 impl Model for Buffer {
     ghost Value = { Pending };
 
-    ghost view = { λ buffer. buffer.contents };
+    ghost view = { λ buffer. buffer.whole };
 
-    ghost invariant = { λ buffer. (commands : List Command) × StandsFor buffer.contents commands };
+    ghost invariant = { λ buffer. (commands : List Command) × StandsFor buffer.whole commands };
 }
 
 impl Buffer {
@@ -38,7 +38,7 @@ impl Buffer {
         ensures stands { StandsFor result [] }
     {
         Buffer {
-            contents: Whole::new(alloc, marks, estimate),
+            whole: Whole::new(alloc, marks, estimate),
         }
     }
 
@@ -47,7 +47,7 @@ impl Buffer {
     pub fn stands_for_some_commands(&self)
         ensures { (commands : List Command) × StandsFor self.now commands }
     {
-        let _contents = &self.contents;
+        let _whole = &self.whole;
     }
 
     /// Gives one command: the call of the same name.

@@ -20,7 +20,7 @@ impl Buffer {
     pub fn write(&mut self, message: Message) -> Result<Reply, Refusal>
         ensures { Obeys self.old (Write message) result self.new }
     {
-        self.contents.write(message)
+        self.whole.write(message)
     }
 
     /// Lets the transport have all that was written so far (Netty's `addFlush`), fixes the promises of those messages,
@@ -33,7 +33,7 @@ impl Buffer {
         ensures obeys { Obeys self.old Flush result self.new }
         ensures frugal { ¬ IsErrOf result Refusal.NoMemory }
     {
-        self.contents.flush()
+        self.whole.flush()
     }
 
     /// Takes the first flushed message away, as sent (Netty's `remove()`): unless it was voided its promise
@@ -45,7 +45,7 @@ impl Buffer {
         ensures obeys { Obeys self.old Remove result self.new }
         ensures frugal { ¬ IsErrOf result Refusal.NoMemory }
     {
-        self.contents.remove(Outcome::Success)
+        self.whole.remove(Outcome::Success)
     }
 
     /// Takes the first flushed message away as `remove` does, but as failed for this cause (Netty's
@@ -56,7 +56,7 @@ impl Buffer {
         ensures obeys { Obeys self.old (RemoveWith cause) result self.new }
         ensures frugal { ¬ IsErrOf result Refusal.NoMemory }
     {
-        self.contents.remove(Outcome::Failed(cause))
+        self.whole.remove(Outcome::Failed(cause))
     }
 
     /// Takes *n* bytes off the flushed blocks in front, as sent (Netty's `removeBytes`), and returns how many messages
@@ -75,7 +75,7 @@ impl Buffer {
         ensures obeys { Obeys self.old (RemoveBytes n) result self.new }
         ensures spares { SparesMemory self.old (RemoveBytes n) result }
     {
-        self.contents.remove_bytes(n)
+        self.whole.remove_bytes(n)
     }
 
     /// Adds *n* bytes to the progress of the first flushed message (Netty's `progress`). It takes the same few steps
@@ -87,7 +87,7 @@ impl Buffer {
         ensures obeys { Obeys self.old (Progress n) result self.new }
         ensures frugal { ¬ IsErrOf result Refusal.NoMemory }
     {
-        self.contents.progress(n)
+        self.whole.progress(n)
     }
 
     /// Takes a promise back (Netty's `Future.cancel`), and returns whether that came in time: a promise that a
@@ -99,7 +99,7 @@ impl Buffer {
         ensures obeys { Obeys self.old (Cancel id) result self.new }
         ensures frugal { ¬ IsErrOf result Refusal.NoMemory }
     {
-        self.contents.cancel(id)
+        self.whole.cancel(id)
     }
 
     /// Takes all flushed messages away, oldest first, as failed for this cause (Netty's `failFlushed`), and returns how
@@ -113,7 +113,7 @@ impl Buffer {
         ensures obeys { Obeys self.old (FailFlushed cause notify) result self.new }
         ensures spares { SparesMemory self.old (FailFlushed cause notify) result }
     {
-        self.contents.fail_flushed(cause, notify)
+        self.whole.fail_flushed(cause, notify)
     }
 
     /// Closes the buffer for good: takes all messages away that no flush has reached, oldest first and without notice,
@@ -128,7 +128,7 @@ impl Buffer {
         ensures obeys { Obeys self.old (Close cause) result self.new }
         ensures spares { SparesMemory self.old (Close cause) result }
     {
-        self.contents.close(cause)
+        self.whole.close(cause)
     }
 
     /// Sets the user bit of this index, or clears it if `writable` is set (Netty's
@@ -140,7 +140,7 @@ impl Buffer {
         ensures obeys { Obeys self.old (UserBit index writable) result self.new }
         ensures frugal { ¬ IsErrOf result Refusal.NoMemory }
     {
-        self.contents.user_bit(index, writable)
+        self.whole.user_bit(index, writable)
     }
 
     /// Sets the marks that are in force from now on (Netty's `setWriteBufferWaterMark` on an open channel, for which
@@ -153,6 +153,6 @@ impl Buffer {
         ensures obeys { Obeys self.old (SetMarks marks) result self.new }
         ensures frugal { ¬ IsErrOf result Refusal.NoMemory }
     {
-        self.contents.set_marks(marks)
+        self.whole.set_marks(marks)
     }
 }

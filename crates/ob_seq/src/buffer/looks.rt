@@ -20,14 +20,14 @@ impl Buffer {
     pub fn look(&self) -> Look
         ensures { Gives self.now look_after result }
     {
-        let contents = &self.contents;
+        let whole = &self.whole;
         Look {
-            total: contents.total(),
-            word: contents.word(),
-            size: contents.line_count() as u32,
-            before_unwritable: contents.before_unwritable(),
-            before_writable: contents.before_writable(),
-            current_progress: contents.current_progress(),
+            total: whole.total(),
+            word: whole.word(),
+            size: whole.line_count() as u32,
+            before_unwritable: whole.before_unwritable(),
+            before_writable: whole.before_writable(),
+            current_progress: whole.current_progress(),
         }
     }
 
@@ -36,7 +36,7 @@ impl Buffer {
     pub fn is_writable(&self) -> bool
         ensures { Gives self.now writable_after result }
     {
-        self.contents.word() == 0
+        self.whole.word() == 0
     }
 
     /// Whether no message is flushed and not yet removed, voided ones too (Netty's `isEmpty`). As in Netty, messages
@@ -44,14 +44,14 @@ impl Buffer {
     pub fn is_empty(&self) -> bool
         ensures { Gives self.now empty_after result }
     {
-        self.contents.line_count() == 0
+        self.whole.line_count() == 0
     }
 
     /// Whether a close was accepted: from then on each command is refused as `Closed`. It does not allocate.
     pub fn is_closed(&self) -> bool
         ensures { Gives self.now closed_after result }
     {
-        self.contents.is_closed()
+        self.whole.is_closed()
     }
 
     /// Whether the user bit of this index is clear (Netty's `getUserDefinedWritability`). The indexes are 1 to 31; of
@@ -59,11 +59,11 @@ impl Buffer {
     pub fn user_defined_writability(&self, index: u32) -> bool
         ensures { Gives self.now (user_writable_after index) result }
     {
-        let contents = &self.contents;
+        let whole = &self.whole;
         if index == 0 || index > 31 {
             return true;
         }
-        !word::has_bit(contents.word(), index)
+        !word::has_bit(whole.word(), index)
     }
 
     /// How many more writes can be accepted: 1048576 less those that were accepted from the opening on, and 0 once the
@@ -71,11 +71,11 @@ impl Buffer {
     pub fn writes_left(&self) -> u32
         ensures { Gives self.now writes_left_after result }
     {
-        let contents = &self.contents;
-        if contents.is_closed() {
+        let whole = &self.whole;
+        if whole.is_closed() {
             return 0;
         }
-        (MAX_WRITES - contents.promise_count()) as u32
+        (MAX_WRITES - whole.promise_count()) as u32
     }
 
     /// What has become of a promise, or nothing if no write was accepted under the id. It takes the same few steps
@@ -83,10 +83,10 @@ impl Buffer {
     pub fn promise(&self, id: PromiseId) -> Option<PromiseState>
         ensures { Gives self.now (λ settings commands. promise_after settings commands id) result }
     {
-        let contents = &self.contents;
+        let whole = &self.whole;
         let at = id.0 as usize;
-        if at < contents.promise_count() {
-            Some(contents.state_at(at))
+        if at < whole.promise_count() {
+            Some(whole.state_at(at))
         } else {
             None
         }
@@ -97,7 +97,7 @@ impl Buffer {
     pub fn current(&self) -> Option<&Message>
         ensures { Gives self.now current_after (option_copied result) }
     {
-        self.contents.current()
+        self.whole.current()
     }
 
     /// The promise of the first flushed message, which is the one that `current` shows; none exactly if `current` is none.
@@ -106,11 +106,11 @@ impl Buffer {
     pub fn front(&self) -> Option<PromiseId>
         ensures { Gives self.now front_promise_after result }
     {
-        let contents = &self.contents;
-        if contents.line_count() == 0 {
+        let whole = &self.whole;
+        if whole.line_count() == 0 {
             return None;
         }
-        Some(PromiseId(contents.front_id() as u32))
+        Some(PromiseId(whole.front_id() as u32))
     }
 
     /// What is left of each flushed message that was not voided, oldest first (Netty's `forEachFlushedMessage`). It
@@ -118,7 +118,7 @@ impl Buffer {
     pub fn flushed(&self) -> Flushed<'_>
         ensures { Gives self.now flushed_after result }
     {
-        self.contents.to_send()
+        self.whole.to_send()
     }
 
     /// How many promises a command would settle: the number of settlements in its reply, and 0 if it would be refused.
@@ -127,7 +127,7 @@ impl Buffer {
     pub fn settles(&self, command: &Command) -> u32
         ensures { Settles self.now command.now result }
     {
-        self.contents.settles(command)
+        self.whole.settles(command)
     }
 
     /// The flushed blocks in front that can be sent at once (Netty's `nioBuffers`): those that hold a byte, up to the
@@ -145,6 +145,6 @@ impl Buffer {
         ensures frugal { (commands : List Command) → StandsFor self.now commands
             → gathered_after self.now.settings commands max_count max_bytes ≡ [] → IsOk result }
     {
-        self.contents.gather(max_count, max_bytes)
+        self.whole.gather(max_count, max_bytes)
     }
 }

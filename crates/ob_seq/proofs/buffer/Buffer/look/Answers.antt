@@ -4,4 +4,4 @@ use Rattle.ob_seq.proofs.buffer.Buffer.look.Goals as goal
 pub returns : goal.returns
 returns c = rw (← c.self.view_is) (λ commands stands.
     rw (c.before_unwritable.ensures, c.before_writable.ensures, c.current_progress.ensures, c.total.ensures)
-    (rw (c.line_count.ensures.count, c.word.ensures) (seen_is c.self.inside.contents commands stands.leaves)))
+    (rw (c.line_count.ensures.count, c.word.ensures) (seen_is c.self.inside.whole commands stands.leaves)))

@@ -5,7 +5,7 @@ use Rattle.ob_seq.proofs.buffer.Buffer.promise.Goals as goal
 
 pub returns-then-at-promise_count : goal.returns-then-at-promise_count
 returns-then-at-promise_count c = rw (← c.self.view_is) (λ commands stands.
-    let held = c.self.inside.contents in
+    let held = c.self.inside.whole in
     let id = c.args.id.0 in
     let told = slice_get-map promise_of (rows_after held.settings.estimate commands) id in
     let within : id < length held.promises = omega (arith, c.if-at-promise_count.true, c.promise_count.ensures.count) in
@@ -14,7 +14,7 @@ returns-then-at-promise_count c = rw (← c.self.view_is) (λ commands stands.
 
 pub returns-else-at-promise_count : goal.returns-else-at-promise_count
 returns-else-at-promise_count c = rw (← c.self.view_is) (λ commands stands.
-    let held = c.self.inside.contents in
+    let held = c.self.inside.whole in
     let id = c.args.id.0 in
     let told = slice_get-map promise_of (rows_after held.settings.estimate commands) id in
     let past : length held.promises ≤ id = omega (arith, c.if-at-promise_count.false, c.promise_count.ensures.count) in

@@ -4,4 +4,4 @@ use Rattle.ob_seq.proofs.buffer.Buffer.settles.Goals as goal
 
 pub returns : goal.returns
 returns c = rw (← c.self.view_is)
-    (λ commands stands. c.settles.ensures ∙ settles c.args.command.now c.self.inside.contents commands stands)
+    (λ commands stands. c.settles.ensures ∙ settles c.args.command.now c.self.inside.whole commands stands)
