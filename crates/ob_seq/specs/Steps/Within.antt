@@ -19,18 +19,12 @@ use Rattle.ob_seq.specs.Unsent.{Unsent, ended, waiting_count, whole}
 use Rattle.ob_seq.specs.declared.contents.cut.Cut.{Cut}
 use Rattle.ob_seq.specs.declared.contents.take.Front.{Front}
 
--- a call makes this step, and its result says this; it lets no message go
-abbrev pub MakesWithin : {A : Type 0} → (Pending → Step) → (List PromiseState → A → Reply) → Unsent → Result A Refusal →
-    Unsent → Type 0
-MakesWithin step tell old result new =
-    (gone : List Outcome) → let now = whole gone old in
-    Makes now (step now) (told_by (tell now.promises) result) (whole gone new)
-
--- and nothing else changes: as many messages wait, and the ring has room for as many as before; it does not allocate, and
--- if it is refused all is as it was
+-- a call makes this step, and its result says this; it lets no message go, the ring has room for as many as before, it does
+-- not allocate, and if it is refused all is as it was
 pub record StepsWithin {A : Type 0} (step : Pending → Step) (tell : List PromiseState → A → Reply) (old : Unsent)
     (result : Result A Refusal) (new : Unsent) : Type 0 where
-  pub makes : MakesWithin step tell old result new
+  pub makes : (gone : List Outcome) → let now = whole gone old in
+      Makes now (step now) (told_by (tell now.promises) result) (whole gone new)
   pub as_many : waiting_count new ≡ waiting_count old
   pub room : new.room ≡ old.room
   pub frugal : ¬ IsErrOf result NoMemory
