@@ -8,6 +8,7 @@ pub mod Numbers
 pub mod Obeying
 pub mod Opening
 pub mod Parts
+pub mod Puts
 pub mod Reaching
 pub mod Replies
 pub mod Shared

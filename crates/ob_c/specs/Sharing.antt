@@ -47,6 +47,40 @@ MakesAnother (Some old) None status None other = ⊥
 MakesAnother (Some old) None status (Some new) None = (status ≡ no_memory) × IsButForShare old new
 MakesAnother (Some old) None status (Some new) (Some other) = (status ≡ done) × (new ≡ sharing old) × IsAnother old other
 
+-- the lock was taken by another call, C is told that, and the handle is as it was; or it was had once, and this was done
+-- under it with the answer of which C is told
+abbrev pub IsMade : {A C : Type 0} → Option A → HandleValue → (A → Held → Held → Type 0) → (Result A ℕ → C) → C
+    → Option HandleValue → Type 0
+IsMade None old does in_c told new = (told ≡ in_c (Err busy)) × (new ≡ Some old)
+IsMade (Some answer) old does in_c told new =
+    (told ≡ in_c (Ok answer)) × (after : HandleValue) × (new ≡ Some after) × UnderLock old (does answer) after
+
+-- with no handle C is told so, and else the lock is tried
+abbrev pub TriesTo : {A C : Type 0} → Option HandleValue → (A → Held → Held → Type 0) → (Result A ℕ → C) → C
+    → Option HandleValue → Type 0
+TriesTo None does in_c told new = (told ≡ in_c (Err not_open)) × (new ≡ None)
+TriesTo {A = A} (Some old) does in_c told new = (made : Option A) × IsMade made old does in_c told new
+
+-- there was no memory for what the call needs, and the lock was not tried; or else it was tried
+abbrev pub IsMadeWithMemory : {A C : Type 0} → Option (Option A) → HandleValue → (A → Held → Held → Type 0)
+    → (Result A ℕ → C) → C → Option HandleValue → Type 0
+IsMadeWithMemory None old does in_c told new = (told ≡ in_c (Err no_memory)) × (new ≡ Some old)
+IsMadeWithMemory (Some made) old does in_c told new = IsMade made old does in_c told new
+
+-- with no handle C is told so, and else the lock is tried, unless there is no memory for what the call needs
+abbrev pub TriesToWithMemory : {A C : Type 0} → Option HandleValue → (A → Held → Held → Type 0) → (Result A ℕ → C) → C
+    → Option HandleValue → Type 0
+TriesToWithMemory None does in_c told new = (told ≡ in_c (Err not_open)) × (new ≡ None)
+TriesToWithMemory {A = A} (Some old) does in_c told new =
+    (made : Option (Option A)) × IsMadeWithMemory made old does in_c told new
+
+-- the same with a message of the bytes of a block, if there are both a handle and a block
+abbrev pub TriesToWithBlock : {A C : Type 0} → Option HandleValue → Option (List ℕ)
+    → (Message → A → Held → Held → Type 0) → (Result A ℕ → C) → C → Option HandleValue → Type 0
+TriesToWithBlock None block does in_c told new = (told ≡ in_c (Err not_open)) × (new ≡ None)
+TriesToWithBlock (Some old) None does in_c told new = (told ≡ in_c (Err no_block)) × (new ≡ Some old)
+TriesToWithBlock (Some old) (Some bytes) does in_c told new = TriesToWithMemory (Some old) (does (AsBlock bytes)) in_c told new
+
 -- the lock was taken by another call, C is told that, and the handle is as it was; or it was had once, this was done
 -- under it, and C is told the reply
 abbrev pub IsTried : {A C : Type 0} → Option (Result A Refusal) → HandleValue → (Result A Refusal → Held → Held → Type 0)
@@ -60,26 +94,6 @@ abbrev pub Tries : {A C : Type 0} → Option HandleValue → (Result A Refusal �
     → Option HandleValue → Type 0
 Tries None does in_c told new = (told ≡ in_c (Err not_open)) × (new ≡ None)
 Tries {A = A} (Some old) does in_c told new = (tried : Option (Result A Refusal)) × IsTried tried old does in_c told new
-
--- there was no memory for what the call needs, and the lock was not tried; or else it was tried
-abbrev pub IsTriedWithMemory : {A C : Type 0} → Option (Option (Result A Refusal)) → HandleValue
-    → (Result A Refusal → Held → Held → Type 0) → (Result A ℕ → C) → C → Option HandleValue → Type 0
-IsTriedWithMemory None old does in_c told new = (told ≡ in_c (Err no_memory)) × (new ≡ Some old)
-IsTriedWithMemory (Some tried) old does in_c told new = IsTried tried old does in_c told new
-
--- with no handle C is told so, and else the lock is tried, unless there is no memory for what the call needs
-abbrev pub TriesWithMemory : {A C : Type 0} → Option HandleValue → (Result A Refusal → Held → Held → Type 0)
-    → (Result A ℕ → C) → C → Option HandleValue → Type 0
-TriesWithMemory None does in_c told new = (told ≡ in_c (Err not_open)) × (new ≡ None)
-TriesWithMemory {A = A} (Some old) does in_c told new =
-    (tried : Option (Option (Result A Refusal))) × IsTriedWithMemory tried old does in_c told new
-
--- the same with a message of the bytes of a block, if there are both a handle and a block
-abbrev pub TriesWithBlock : {A C : Type 0} → Option HandleValue → Option (List ℕ)
-    → (Message → Result A Refusal → Held → Held → Type 0) → (Result A ℕ → C) → C → Option HandleValue → Type 0
-TriesWithBlock None block does in_c told new = (told ≡ in_c (Err not_open)) × (new ≡ None)
-TriesWithBlock (Some old) None does in_c told new = (told ≡ in_c (Err no_block)) × (new ≡ Some old)
-TriesWithBlock (Some old) (Some bytes) does in_c told new = TriesWithMemory (Some old) (does (AsBlock bytes)) in_c told new
 
 -- the message of the bytes of a block, if there is one, and memory to share it
 abbrev pub MessageOf : Option (List ℕ) → Result Message ℕ → Type 0

@@ -25,6 +25,7 @@ mod opening;
 mod parts;
 mod pieces;
 mod pressed;
+mod puts;
 mod removals;
 mod replies;
 mod sends;

@@ -9,7 +9,7 @@ ghost use Rattle.ob_shared_connection.specs.Values.{HandleValue};
 use crate::loose::Loose;
 use crate::numbers::{BUSY, NOT_OPEN, accepted};
 use crate::tries::wake_nobody;
-use ob_shared_connection::{Act, Ask, Handle};
+use ob_shared_connection::{Act, Ask, Handle, WriteFault};
 use ob_types::Refusal;
 use std::alloc::Global;
 use std::marker::Model;
@@ -34,7 +34,7 @@ impl Shared {
     ghost use Rattle.ob_shared_connection.specs.Calls.{IsCall};
     ghost use Rattle.ob_shared_connection.specs.Removals.{MayGive};
     ghost use Rattle.ob_c.specs.Reaching.{LendsShared};
-    ghost use Rattle.ob_c.specs.Sharing.{Tries, TriesToLook};
+    ghost use Rattle.ob_c.specs.Sharing.{Tries, TriesTo, TriesToLook};
 
     /// Takes the handle out, if there is one.
     pub(crate) fn handle(&mut self, alloc: Global) -> Option<Box<Handle>>
@@ -84,6 +84,27 @@ impl Shared {
             Ok((answer, wakes)) => {
                 wake_nobody(wakes);
                 accepted(Some(answer))
+            }
+        }
+    }
+
+    /// Makes a write, if there is a handle and the lock is free.
+    pub(crate) fn make<A: Act<Fault = WriteFault> + Drop>(
+        &mut self,
+        act: A,
+    ) -> Result<Result<A::Answer, WriteFault>, u32>
+        requires { MayGive false (A.commands act) }
+        ensures { TriesTo self.old.value (λ answer before after. IsCall (A.does act) (A.commands act) before answer after)
+            (λ told. told) result self.new.value }
+    {
+        if !self.is_open() {
+            return Err(NOT_OPEN);
+        }
+        match self.reach().try_act(act) {
+            Err(_act) => Err(BUSY),
+            Ok((answer, wakes)) => {
+                wake_nobody(wakes);
+                Ok(answer)
             }
         }
     }

@@ -10,9 +10,10 @@ ghost use Rattle.ob_connection.specs.Obeying.{bit_reply, cancelled_reply, flushe
 ghost use Rattle.ob_shared_connection.specs.Calls.{Makes, ObeyingFreely, Puts, PutsAndFlushes, TakingQuietly};
 ghost use Rattle.ob_c.specs.Looks.{look_or_status, promise_or_status};
 ghost use Rattle.ob_c.specs.Numbers.{no_memory};
-ghost use Rattle.ob_c.specs.Replies.{cancelled_in_c, changed_in_c, flushed_in_c, taken_in_c, written_and_flushed_in_c};
-ghost use Rattle.ob_c.specs.Replies.{written_in_c};
-ghost use Rattle.ob_c.specs.Sharing.{GlancesFor, MessageOf, Tries, TriesToLook, TriesToSetMarks, TriesWithBlock, TriesWithMemory};
+ghost use Rattle.ob_c.specs.Puts.{put_and_flushed_in_c, put_in_c};
+ghost use Rattle.ob_c.specs.Replies.{cancelled_in_c, changed_in_c, flushed_in_c, taken_in_c};
+ghost use Rattle.ob_c.specs.Sharing.{GlancesFor, MessageOf, Tries, TriesTo, TriesToLook, TriesToSetMarks, TriesToWithBlock};
+ghost use Rattle.ob_c.specs.Sharing.{TriesToWithMemory};
 
 use crate::block::Block;
 use crate::numbers::{DONE, NO_BLOCK, NO_MEMORY, NOT_OPEN, status_of};
@@ -51,16 +52,16 @@ pub extern "C" fn limekeel_shared_write_bytes(
     shared: &mut Shared,
     bytes: &[u8],
 ) -> Written
-    ensures { TriesWithMemory shared.old.value (Puts (AsBlock bytes.now)) written_in_c result shared.new.value }
+    ensures { TriesToWithMemory shared.old.value (Puts (AsBlock bytes.now)) put_in_c result shared.new.value }
 {
     if bytes.len() <= FEW_BYTES {
-        return Written::of(shared.obey(WriteCopy(bytes)));
+        return Written::put(shared.make(WriteCopy(bytes)));
     }
     if !shared.is_open() {
         return Written::of(Err(NOT_OPEN));
     }
     match copied(alloc, bytes) {
-        Ok(copy) => Written::of(shared.obey(Put(copy))),
+        Ok(copy) => Written::put(shared.make(Put(copy))),
         Err(status) => Written::of(Err(status)),
     }
 }
@@ -74,17 +75,17 @@ pub extern "C" fn limekeel_shared_write_and_flush_bytes(
     shared: &mut Shared,
     bytes: &[u8],
 ) -> WrittenAndFlushed
-    ensures { TriesWithMemory shared.old.value (PutsAndFlushes (AsBlock bytes.now)) written_and_flushed_in_c result
+    ensures { TriesToWithMemory shared.old.value (PutsAndFlushes (AsBlock bytes.now)) put_and_flushed_in_c result
         shared.new.value }
 {
     if bytes.len() <= FEW_BYTES {
-        return WrittenAndFlushed::of(shared.obey(WriteCopyAndFlush(bytes)));
+        return WrittenAndFlushed::put(shared.make(WriteCopyAndFlush(bytes)));
     }
     if !shared.is_open() {
         return WrittenAndFlushed::of(Err(NOT_OPEN));
     }
     match copied(alloc, bytes) {
-        Ok(copy) => WrittenAndFlushed::of(shared.obey(PutAndFlush(copy))),
+        Ok(copy) => WrittenAndFlushed::put(shared.make(PutAndFlush(copy))),
         Err(status) => WrittenAndFlushed::of(Err(status)),
     }
 }
@@ -95,14 +96,14 @@ pub extern "C" fn limekeel_shared_write_and_flush_bytes(
 /// can be counted, then 18 if another call has the lock.
 #[unsafe(no_mangle)]
 pub extern "C" fn limekeel_shared_write_block(shared: &mut Shared, block: &mut Block) -> Written
-    ensures writes { TriesWithBlock shared.old.value block.old.value Puts written_in_c result shared.new.value }
+    ensures writes { TriesToWithBlock shared.old.value block.old.value Puts put_in_c result shared.new.value }
     ensures block { block.new.value ≡ block.old.value }
 {
     if !shared.is_open() {
         return Written::of(Err(NOT_OPEN));
     }
     match bytes_of(block) {
-        Ok(message) => Written::of(shared.obey(Put(message))),
+        Ok(message) => Written::put(shared.make(Put(message))),
         Err(status) => Written::of(Err(status)),
     }
 }
@@ -113,7 +114,7 @@ pub extern "C" fn limekeel_shared_write_and_flush_block(
     shared: &mut Shared,
     block: &mut Block,
 ) -> WrittenAndFlushed
-    ensures writes { TriesWithBlock shared.old.value block.old.value PutsAndFlushes written_and_flushed_in_c result
+    ensures writes { TriesToWithBlock shared.old.value block.old.value PutsAndFlushes put_and_flushed_in_c result
         shared.new.value }
     ensures block { block.new.value ≡ block.old.value }
 {
@@ -121,7 +122,7 @@ pub extern "C" fn limekeel_shared_write_and_flush_block(
         return WrittenAndFlushed::of(Err(NOT_OPEN));
     }
     match bytes_of(block) {
-        Ok(message) => WrittenAndFlushed::of(shared.obey(PutAndFlush(message))),
+        Ok(message) => WrittenAndFlushed::put(shared.make(PutAndFlush(message))),
         Err(status) => WrittenAndFlushed::of(Err(status)),
     }
 }
@@ -132,25 +133,25 @@ pub extern "C" fn limekeel_shared_write_lent_bytes(
     shared: &mut Shared,
     bytes: &'static [u8],
 ) -> Written
-    ensures { Tries shared.old.value (Puts (AsBlock bytes.now)) written_in_c result shared.new.value }
+    ensures { TriesTo shared.old.value (Puts (AsBlock bytes.now)) put_in_c result shared.new.value }
 {
-    Written::of(shared.obey(Put(lent(bytes))))
+    Written::put(shared.make(Put(lent(bytes))))
 }
 
 /// Writes a region of `length` bytes, which whoever has the transport sends by itself.
 #[unsafe(no_mangle)]
 pub extern "C" fn limekeel_shared_write_region(shared: &mut Shared, length: u64) -> Written
-    ensures { Tries shared.old.value (Puts (AsRegion length)) written_in_c result shared.new.value }
+    ensures { TriesTo shared.old.value (Puts (AsRegion length)) put_in_c result shared.new.value }
 {
-    Written::of(shared.obey(Put(Message::Region(length))))
+    Written::put(shared.make(Put(Message::Region(length))))
 }
 
 /// Writes any other message, by a number that means something to the application alone.
 #[unsafe(no_mangle)]
 pub extern "C" fn limekeel_shared_write_other(shared: &mut Shared, value: u32) -> Written
-    ensures { Tries shared.old.value (Puts (AsOther value)) written_in_c result shared.new.value }
+    ensures { TriesTo shared.old.value (Puts (AsOther value)) put_in_c result shared.new.value }
 {
-    Written::of(shared.obey(Put(Message::Other(value))))
+    Written::put(shared.make(Put(Message::Other(value))))
 }
 
 /// Lets the transport have all that was written so far.

@@ -4,8 +4,7 @@ ghost use Rattle.ob_types.specs.declared.message.Message.TheVariants.{Block};
 ghost use Rattle.ob_shared_connection.specs.Calls.{UnderLock, WritesAndFlushes};
 
 use bytes::Bytes;
-use ob_connection::Refused;
-use ob_shared_connection::{Handle, WrittenAndFlushed};
+use ob_shared_connection::{Handle, NotWritten, WrittenAndFlushed};
 use ob_types::Message;
 use std::sync::Wait;
 
@@ -17,7 +16,7 @@ pub fn respond_from_any_thread<R: Wait>(
     rt: &R,
     handle: &mut Handle,
     answer: Bytes,
-) -> Result<WrittenAndFlushed, Refused>
+) -> Result<WrittenAndFlushed, NotWritten>
     ensures { UnderLock handle.old (WritesAndFlushes (Block answer) result) handle.new }
 {
     handle.write_and_flush(rt, Message::Block(answer))

@@ -16,9 +16,7 @@ use Rattle.ob_seq.specs.Effect.{rows_after}
 use Rattle.ob_seq.specs.State.{is_closed}
 use Rattle.ob_connection.specs.Connected.{Connected, StandsForSome, connection_limit}
 use Rattle.ob_connection.specs.Looks.{Refuses}
-use Rattle.ob_connection.specs.Obeying.{Accepts, Obeys, answer_of_write, written_reply}
-use Rattle.ob_connection.specs.declared.refused.Refused.{Refused}
-use Rattle.ob_connection.specs.declared.replies.Written.{Written}
+use Rattle.ob_connection.specs.Obeying.{Accepts, Obeys}
 use Rattle.ob_shared_connection.specs.Covers.{CountsAs}
 
 -- a connection that obeyed accepts
@@ -114,9 +112,3 @@ counts_as connected estimate message size same is =
           ∙ ap (λ (e : Estimate). (size - estimate.overhead) + e.overhead) same;
       short = both.1;
     }
-
--- a message that was written was accepted
-pub accepts_written : (old new : Connected) (message : Message) (result : Result Written Refused) → IsOk result
-    → Obeys old (Write message) written_reply (answer_of_write result) new → Accepts old (Write message)
-accepts_written old new message (Ok written) ok obeys = accepts_obeyed old new (Write message) written_reply (Ok written) refl obeys
-accepts_written old new message (Err refused) ok obeys = absurd (cc ok)

@@ -1,5 +1,5 @@
 -- What a handle is told at the lock, and what a call promises.
-use Rattle.std.specs.Prelude.{◌≡◌, true, false, List, [], ◌∷◌, ◌++◌, Result, Ok, Err, IfErr, IfOk, IsErrOf, OnErr, OnOk, is_err}
+use Rattle.std.specs.Prelude.{◌≡◌, ◌≢◌, true, false, None, List, [], ◌∷◌, ◌++◌, Result, Ok, Err, IfErr, IfOk, IsErrOf, OnErr, OnOk, is_err}
 use Rattle.ob_types.specs.declared.command.Command.{Command}
 use Rattle.ob_types.specs.declared.command.Command.TheVariants.{Close, FailFlushed, Flush, Write}
 use Rattle.ob_types.specs.declared.message.Message.{Message}
@@ -11,16 +11,18 @@ use Rattle.ob_types.specs.declared.refusal.Refusal.TheVariants.{Closed, NoMemory
 use Rattle.ob_types.specs.declared.reply.Reply.{Reply}
 use Rattle.ob_seq.specs.State.{closed_after}
 use Rattle.ob_connection.specs.Connected.{Connected, Gives}
-use Rattle.ob_connection.specs.Obeying.{GivesUp, IsNext, IsQuiet, Obeys, answer_of_write, flushed_reply, taken_reply, written_reply}
-use Rattle.ob_connection.specs.declared.refused.Refused.{Refused}
+use Rattle.ob_connection.specs.Obeying.{GivesUp, IsNext, IsQuiet, Obeys, flushed_reply, taken_reply, written_reply}
 use Rattle.ob_connection.specs.declared.replies.Flushed.{Flushed}
 use Rattle.ob_connection.specs.declared.replies.Taken.{Taken}
 use Rattle.ob_connection.specs.declared.replies.Written.{Written}
-use Rattle.ob_shared_connection.specs.Covers.{IsCovered}
+use Rattle.ob_shared_connection.specs.Covers.{IsCovered, Within}
 use Rattle.ob_shared_connection.specs.Log.{commands_by}
 use Rattle.ob_shared_connection.specs.Removals.{NoneRemoves}
 use Rattle.ob_shared_connection.specs.Values.{HandleValue, Held, IsLeft, handle_with}
 use Rattle.ob_shared_connection.specs.declared.call.Call.{Call}
+use Rattle.ob_shared_connection.specs.declared.not_written.NotWritten.{NotWritten}
+use Rattle.ob_shared_connection.specs.declared.not_written.WriteFault.{WriteFault}
+use Rattle.ob_shared_connection.specs.declared.not_written.WriteFault.TheVariants.{Refused, Uncovered}
 use Rattle.ob_shared_connection.specs.declared.written.WrittenAndFlushed.{WrittenAndFlushed}
 
 -- a handle that takes the lock sees all accepted calls, and the connection is what they leave: what it had seen begins
@@ -59,22 +61,39 @@ pub record UnderLock (old : HandleValue) (Does : Held → Held → Type 0) (new 
   pub does : Does before after
   pub unlocks : new ≡ after.handle
 
--- it writes a message, as the sequential connection does, may run out of memory, and gives a message back that it refuses
-pub record Writing (message : Message) (old : Connected) (result : Result Written Refused) (new : Connected)
+-- why a write was refused, in the words of the sequential connection: to one that its seat does not cover nothing more
+-- is there than to one that is out of memory
+abbrev pub refusal_of : WriteFault → Refusal
+refusal_of (Refused refusal) = refusal
+refusal_of Uncovered = NoMemory
+
+-- what a write answers, in those words
+abbrev pub answer_of_put : Result Written WriteFault → Result Written Refusal
+answer_of_put (Ok written) = Ok written
+answer_of_put (Err why) = Err (refusal_of why)
+
+abbrev pub answer_of_write : Result Written NotWritten → Result Written Refusal
+answer_of_write (Ok written) = Ok written
+answer_of_write (Err refused) = Err (refusal_of refused.why)
+
+-- it writes a message, as the sequential connection does, may run out of memory, or of what its seat holds, and gives a
+-- message back that it refuses
+pub record Writing (message : Message) (old : Connected) (result : Result Written NotWritten) (new : Connected)
     : Type 0 where
   pub obeys : Obeys old (Write message) written_reply (answer_of_write result) new
   pub returned : IfErr result (λ refused. refused.message ≡ message)
 
 -- a call that writes a message
-abbrev pub Writes : Message → Result Written Refused → Held → Held → Type 0
+abbrev pub Writes : Message → Result Written NotWritten → Held → Held → Type 0
 Writes message result old new = IsCall (Writing message) (Write message ∷ []) old result new
 
--- it writes a message, as the sequential connection does, may run out of memory, and lets a message go that it refuses
-abbrev pub Putting : Message → Connected → Result Written Refusal → Connected → Type 0
-Putting message old result new = Obeys old (Write message) written_reply result new
+-- it writes a message, as the sequential connection does, may run out of memory, or of what its seat holds, and lets a
+-- message go that it refuses
+abbrev pub Putting : Message → Connected → Result Written WriteFault → Connected → Type 0
+Putting message old result new = Obeys old (Write message) written_reply (answer_of_put result) new
 
 -- a call that writes a message, which is gone if it is refused
-abbrev pub Puts : Message → Result Written Refusal → Held → Held → Type 0
+abbrev pub Puts : Message → Result Written WriteFault → Held → Held → Type 0
 Puts message result old new = IsCall (Putting message) (Write message ∷ []) old result new
 
 -- it obeys the command, and never runs out of memory
@@ -82,6 +101,10 @@ pub record ObeyingFreely {A : Type 0} (tell : List PromiseState → A → Reply)
     (result : Result A Refusal) (new : Connected) : Type 0 where
   pub obeys : Obeys old command tell result new
   pub frugal : ¬ IsErrOf result NoMemory
+
+-- a write was refused for the reason that its seat did not cover it only if the connection is within a budget
+abbrev pub IsUncoveredOnlyWithin : WriteFault → Within → Type 0
+IsUncoveredOnlyWithin why budget = budget ≡ None → why ≢ Uncovered
 
 -- a flush that was accepted
 abbrev pub Flushing : Connected → Flushed → Connected → Type 0
@@ -97,11 +120,11 @@ ThenFlushes Writes old (Ok done) new =
 ThenFlushes Writes old (Err refused) new = Writes old (Err refused) new
 
 -- a call that writes a message and flushes
-abbrev pub WritesAndFlushes : Message → Result WrittenAndFlushed Refused → Held → Held → Type 0
+abbrev pub WritesAndFlushes : Message → Result WrittenAndFlushed NotWritten → Held → Held → Type 0
 WritesAndFlushes message result old new = IsCall (ThenFlushes (Writing message)) (Write message ∷ Flush ∷ []) old result new
 
 -- the same, if the message is gone when it is refused
-abbrev pub PutsAndFlushes : Message → Result WrittenAndFlushed Refusal → Held → Held → Type 0
+abbrev pub PutsAndFlushes : Message → Result WrittenAndFlushed WriteFault → Held → Held → Type 0
 PutsAndFlushes message result old new = IsCall (ThenFlushes (Putting message)) (Write message ∷ Flush ∷ []) old result new
 
 -- it obeys the command, never runs out of memory, and what it took away goes on where those end that were gone before,

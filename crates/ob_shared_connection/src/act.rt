@@ -1,4 +1,4 @@
-ghost use Rattle.std.specs.Prelude.{◌≡◌, List, OnErr, OnOk, IsOk, Result, Some, ℕ};
+ghost use Rattle.std.specs.Prelude.{◌≡◌, List, IfErr, IsOk, IsSome, OnErr, OnOk, Result, Some, ℕ};
 ghost use Rattle.ob_types.specs.declared.command.Command.{Command};
 ghost use Rattle.ob_connection.specs.Connected.{Connected};
 ghost use Rattle.ob_shared_connection.specs.Acts.{Continues};
@@ -20,13 +20,16 @@ pub trait Act {
     /// What it does to a connection, as the sequential call promises it.
     ghost does: { Self → Connected → Result Self.Answer Self.Fault → Connected → Type 0 };
 
+    /// Whether it was refused since the seat of a connection within a budget does not hold what it writes.
+    ghost uncovered: { Self.Fault → Type 0 };
+
     /// The bytes that a seat has to hold for it beside those that are pending: those that it writes, if the connection
     /// accepts it while there is memory; else none.
     fn adds(&self, connection: &Connection) -> u64
         ensures { Adds connection.now (commands self.now) result };
 
     /// Makes it. Of a connection within a budget no more bytes are pending then than its seat holds, which is `room`: a
-    /// write that would pass that is out of memory.
+    /// write that would pass that is uncovered.
     fn act(
         self,
         connection: &mut Connection,
@@ -35,5 +38,6 @@ pub trait Act {
         ensures does { does self connection.old result connection.new }
         ensures goes_on { OnOk result (Continues connection.old (commands self) connection.new) }
         ensures refused { OnErr result (connection.new ≡ connection.old) }
+        ensures within { IfErr result (λ fault. uncovered fault → IsSome room) }
         ensures fits { (bytes : ℕ) → room ≡ Some bytes → IsOk result → FitsIn connection.old (commands self) bytes };
 }

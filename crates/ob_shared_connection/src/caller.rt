@@ -1,8 +1,9 @@
-ghost use Rattle.std.specs.Prelude.{◌≡◌, ◌≤◌, ◌<◌, false, true, IfErr, IfOk, IfSome, IsOkUnless, None, OnErr, OnOk, Some, option_map};
+ghost use Rattle.std.specs.Prelude.{◌≡◌, ◌≢◌, ◌≤◌, false, true, IfErr, IfOk, IfSome, IsOkUnless, None, OnErr, OnOk, Some, option_map};
 ghost use Rattle.std.specs.Box.{box_value};
 ghost use Rattle.std.specs.Arc.{arc_value};
 
 mod sending;
+mod within;
 
 use crate::act::Act;
 use crate::ask::Ask;
@@ -12,15 +13,13 @@ use crate::glance::Glance;
 use crate::handle::TooManyHandles;
 use crate::looks::{At, Leave};
 use crate::moment::Moment;
-use crate::over::OverBudget;
 use crate::patience::Patience;
 use crate::place::Place;
 use crate::plays::Accepted;
 use crate::rule::Opened;
 use crate::shared::{Seat, Shared};
 use crate::wakes::Wakes;
-use ob_budget::{Pressure, RaiseFault};
-use ob_covered::{Cover, Told};
+use ob_covered::Cover;
 use ob_types::{Estimate, Refusal, WaterMark, pack, unpack};
 use std::alloc::Global;
 use std::marker::Brand;
@@ -40,8 +39,7 @@ impl Caller {
     ghost use Rattle.ob_shared_connection.specs.Handles.{IsAnother, IsButForShare, IsEnd, IsFirst, IsJoined};
     ghost use Rattle.ob_shared_connection.specs.Values.{appointed, resigned, sharing};
     ghost use Rattle.ob_shared_connection.specs.Calls.{IsCall, IsLock, UnderLock};
-    ghost use Rattle.ob_shared_connection.specs.Covering.{ActsWithin, IsRecovered, Settles};
-    ghost use Rattle.ob_shared_connection.specs.Covers.{Adds, HoldsFor, LacksRoom, TakesFor, TellsIf, budget_of};
+    ghost use Rattle.ob_shared_connection.specs.Covers.{budget_of};
     ghost use Rattle.ob_shared_connection.specs.Ruled.{within_of};
     ghost use Rattle.ob_shared_connection.specs.Glances.{IsGlance};
     ghost use Rattle.ob_shared_connection.specs.Looking.{IsLook};
@@ -279,6 +277,7 @@ impl Caller {
         requires may { MayGive (caller_handle self.old).sends (A.commands act) }
         ensures holds { IsHolder self.new }
         ensures call { IsCall (A.does act) (A.commands act) (caller_held self.old) result (caller_held self.new) }
+        ensures covered { IfErr result (λ fault. A.uncovered fault → (caller_handle self.old).budget ≢ None) }
     {
         self.act_for::<A, Brand>(act)
     }
@@ -290,6 +289,7 @@ impl Caller {
         requires commands { C.commands ≡ A.commands act }
         ensures holds { IsHolder self.new }
         ensures call { IsCall (A.does act) (A.commands act) (caller_held self.old) result (caller_held self.new) }
+        ensures covered { IfErr result (λ fault. A.uncovered fault → (caller_handle self.old).budget ≢ None) }
     {
         let Caller { shared, seat } = self;
         let carried = seat.slot_mut(&shared.table.shared, 0);
@@ -310,92 +310,6 @@ impl Caller {
         ask.ask(&carried.connection)
     }
 
-    /// The bytes that a seat has to hold for an act beside those that are pending.
-    fn adds<A: Act>(&mut self, act: &A) -> u64
-        requires { IsHolder self.old }
-        ensures holds { IsHolder self.new }
-        ensures same { caller_held self.new ≡ caller_held self.old }
-        ensures adds { Adds (caller_held self.old).connected (A.commands act.now) result }
-    {
-        let shared = &self.shared;
-        let carried = self.seat.slot_mut(&shared.table.shared, 0);
-        act.adds(&carried.connection)
-    }
-
-    /// Has the seat of a budget hold these bytes beside what is pending.
-    fn take(&mut self, bytes: u64) -> Result<Option<Pressure>, RaiseFault>
-        requires holds { IsHolder self.old }
-        requires small { bytes < 4294967296 }
-        ensures holds { IsHolder self.new }
-        ensures same { IsRecovered (caller_held self.old) (caller_held self.new) }
-        ensures told { IfOk result (λ told. TellsIf (caller_held self.old).cover told (caller_held self.new).cover) }
-        ensures untold { OnErr result (TellsIf (caller_held self.old).cover None (caller_held self.new).cover) }
-        ensures enough { OnOk result (HoldsFor (caller_held self.old).connected bytes (caller_held self.new).cover) }
-        ensures sparing { TakesFor (caller_held self.old).connected bytes (caller_held self.old).cover (caller_held self.new).cover }
-        ensures short { IfErr result (λ fault. LacksRoom (caller_held self.old).connected (caller_held self.old).cover bytes fault
-            (caller_held self.new).cover) }
-    {
-        let shared = &self.shared;
-        let carried = self.seat.slot_mut(&shared.table.shared, 0);
-        carried.take(bytes)
-    }
-
-    /// Has it give back what is spare.
-    pub fn settle(&mut self) -> Option<Pressure>
-        requires { IsHolder self.old }
-        ensures holds { IsHolder self.new }
-        ensures settles { Settles 2 result (caller_held self.old) (caller_held self.new) }
-    {
-        let shared = &self.shared;
-        let carried = self.seat.slot_mut(&shared.table.shared, 0);
-        carried.settle()
-    }
-
-    /// Has it give back all above what is pending.
-    pub fn rest(&mut self) -> Option<Pressure>
-        requires { IsHolder self.old }
-        ensures holds { IsHolder self.new }
-        ensures settles { Settles 0 result (caller_held self.old) (caller_held self.new) }
-    {
-        let shared = &self.shared;
-        let carried = self.seat.slot_mut(&shared.table.shared, 0);
-        carried.rest()
-    }
-
-    /// Does something to the connection under the lock, once its seat holds what that adds.
-    pub fn act_within<A: Act>(
-        &mut self,
-        act: A,
-    ) -> Told<Result<Result<A::Answer, A::Fault>, OverBudget<A>>>
-        requires holds { IsHolder self.old }
-        requires may { MayGive (caller_handle self.old).sends (A.commands act) }
-        ensures holds { IsHolder self.new }
-        ensures acts { ActsWithin (A.does act) (A.commands act) act (caller_held self.old) result (caller_held self.new) }
-    {
-        let adds = self.adds(&act);
-        if adds == 0 {
-            let answer = self.act(act);
-            let pressure = self.settle();
-            return Told {
-                answer: Ok(answer),
-                pressure,
-            };
-        }
-        match self.take(adds) {
-            Ok(pressure) => {
-                let answer = self.act(act);
-                Told {
-                    answer: Ok(answer),
-                    pressure,
-                }
-            }
-            Err(fault) => Told {
-                answer: Err(OverBudget { fault, act }),
-                pressure: None,
-            },
-        }
-    }
-
     /// One call, which takes the lock and lets it go.
     #[inline(always)]
     pub fn call<A: Act, R: Wait>(&mut self, rt: &R, act: A) -> Result<A::Answer, A::Fault>
@@ -405,84 +319,12 @@ impl Caller {
         ensures sends { (caller_handle self.new).sends ≡ (caller_handle self.old).sends }
         ensures under { UnderLock (caller_handle self.old)
             (λ before after. IsCall (A.does act) (A.commands act) before result after) (caller_handle self.new) }
+        ensures covered { IfErr result (λ fault. A.uncovered fault → (caller_handle self.old).budget ≢ None) }
     {
         self.lock(rt, Patience::Short);
         let answer = self.act(act);
         self.unlock();
         answer
-    }
-
-    /// One call within a budget, which takes the lock and lets it go.
-    pub fn call_within<A: Act, R: Wait>(
-        &mut self,
-        rt: &R,
-        act: A,
-    ) -> Told<Result<Result<A::Answer, A::Fault>, OverBudget<A>>>
-        requires free { IsFree self.old }
-        requires may { MayGive (caller_handle self.old).sends (A.commands act) }
-        ensures free { IsFree self.new }
-        ensures sends { (caller_handle self.new).sends ≡ (caller_handle self.old).sends }
-        ensures under { UnderLock (caller_handle self.old)
-            (λ before after. ActsWithin (A.does act) (A.commands act) act before result after) (caller_handle self.new) }
-    {
-        self.lock(rt, Patience::Short);
-        let told = self.act_within(act);
-        self.unlock();
-        told
-    }
-
-    /// The same if the lock is free, and tells whom to wake.
-    pub fn try_call_within<A: Act>(
-        &mut self,
-        act: A,
-    ) -> Result<
-        (
-            Told<Result<Result<A::Answer, A::Fault>, OverBudget<A>>>,
-            Wakes,
-        ),
-        A,
-    >
-        requires free { IsFree self.old }
-        requires may { MayGive (caller_handle self.old).sends (A.commands act) }
-        ensures free { IsFree self.new }
-        ensures sends { (caller_handle self.new).sends ≡ (caller_handle self.old).sends }
-        ensures under { IfOk result (λ told. UnderLock (caller_handle self.old)
-            (λ before after. ActsWithin (A.does act) (A.commands act) act before told.0 after) (caller_handle self.new)) }
-        ensures busy { OnErr result (caller_handle self.new ≡ caller_handle self.old) }
-        ensures back { IfErr result (λ again. again ≡ act) }
-    {
-        if !self.try_lock() {
-            return Err(act);
-        }
-        let told = self.act_within(act);
-        let wakes = self.leave();
-        Ok((told, wakes))
-    }
-
-    /// Gives back what is spare, under the lock.
-    pub fn settle_under_lock<R: Wait>(&mut self, rt: &R) -> Option<Pressure>
-        requires { IsFree self.old }
-        ensures free { IsFree self.new }
-        ensures sends { (caller_handle self.new).sends ≡ (caller_handle self.old).sends }
-        ensures under { UnderLock (caller_handle self.old) (Settles 2 result) (caller_handle self.new) }
-    {
-        self.lock(rt, Patience::Short);
-        let told = self.settle();
-        self.unlock();
-        told
-    }
-
-    /// Gives back all above what is pending, under the lock.
-    pub fn rest_under_lock<R: Wait>(&mut self, rt: &R) -> Option<Pressure>
-        requires { IsFree self.old }
-        ensures free { IsFree self.new }
-        ensures sends { (caller_handle self.new).sends ≡ (caller_handle self.old).sends }
-        ensures under { UnderLock (caller_handle self.old) (Settles 0 result) (caller_handle self.new) }
-    {
-        self.lock(rt, Patience::Short);
-        let told = self.rest();
-        self.unlock();
-        told
     }
 
     /// One call if the lock is free, which takes it and lets it go, and tells whom to wake.
@@ -493,6 +335,8 @@ impl Caller {
         ensures sends { (caller_handle self.new).sends ≡ (caller_handle self.old).sends }
         ensures under { IfOk result (λ told. UnderLock (caller_handle self.old)
             (λ before after. IsCall (A.does act) (A.commands act) before told.0 after) (caller_handle self.new)) }
+        ensures covered { IfOk result (λ told. IfErr told.0 (λ fault.
+            A.uncovered fault → (caller_handle self.old).budget ≢ None)) }
         ensures busy { OnErr result (caller_handle self.new ≡ caller_handle self.old) }
         ensures back { IfErr result (λ again. again ≡ act) }
     {

@@ -4,10 +4,12 @@ ghost use Rattle.ob_types.specs.declared.command.Command.TheVariants as command;
 ghost use Rattle.ob_types.specs.declared.promise.Outcome.TheVariants.{Success, Failed};
 ghost use Rattle.ob_connection.specs.Obeying.{flushed_reply, removed_reply, taken_reply, cancelled_reply, bit_reply};
 ghost use Rattle.ob_connection.specs.Obeying.{done_reply};
+ghost use Rattle.ob_shared_connection.specs.declared.not_written.WriteFault.TheVariants.{Uncovered};
 ghost use Rattle.ob_shared_connection.specs.Calls.{GivingUp, ObeyingFreely, Taking, TakingQuietly, Writing, giving_up};
 
 use crate::act::Act;
 use crate::lacking::{bytes_added, room_lacks};
+use crate::not_written::{NotWritten, WriteFault};
 use ob_connection::{Connection, Flushed, Refused, Removed, Taken, Written};
 use ob_types::{Cause, Change, Message, Refusal, WaterMark};
 
@@ -17,24 +19,32 @@ pub struct Write(pub Message);
 impl Act for Write {
     type Answer = Written;
 
-    type Fault = Refused;
+    type Fault = NotWritten;
 
     ghost commands = { λ act. command.Write act.0 ∷ [] };
 
     ghost does = { λ act. Writing act.0 };
 
+    ghost uncovered = { λ fault. fault.why ≡ Uncovered };
+
     fn adds(&self, connection: &Connection) -> u64 {
         bytes_added(connection, &self.0)
     }
 
-    fn act(self, connection: &mut Connection, room: Option<u64>) -> Result<Written, Refused> {
+    fn act(self, connection: &mut Connection, room: Option<u64>) -> Result<Written, NotWritten> {
         if room_lacks(connection, &self.0, room) {
-            return Err(Refused {
-                refusal: Refusal::NoMemory,
+            return Err(NotWritten {
+                why: WriteFault::Uncovered,
                 message: self.0,
             });
         }
-        connection.write(self.0)
+        match connection.write(self.0) {
+            Ok(written) => Ok(written),
+            Err(Refused { refusal, message }) => Err(NotWritten {
+                why: WriteFault::Refused(refusal),
+                message,
+            }),
+        }
     }
 }
 
@@ -49,6 +59,8 @@ impl Act for Flush {
     ghost commands = { λ _. command.Flush ∷ [] };
 
     ghost does = { λ _. ObeyingFreely flushed_reply command.Flush };
+
+    ghost uncovered = { λ _. ⊥ };
 
     fn adds(&self, _connection: &Connection) -> u64 {
         0
@@ -71,6 +83,8 @@ impl Act for Remove {
 
     ghost does = { λ _. ObeyingFreely removed_reply command.Remove };
 
+    ghost uncovered = { λ _. ⊥ };
+
     fn adds(&self, _connection: &Connection) -> u64 {
         0
     }
@@ -91,6 +105,8 @@ impl Act for RemoveWith {
     ghost commands = { λ act. command.RemoveWith act.0 ∷ [] };
 
     ghost does = { λ act. ObeyingFreely removed_reply (command.RemoveWith act.0) };
+
+    ghost uncovered = { λ _. ⊥ };
 
     fn adds(&self, _connection: &Connection) -> u64 {
         0
@@ -113,6 +129,8 @@ impl Act for TakeSent {
 
     ghost does = { λ act. Taking Success (command.RemoveBytes act.0) };
 
+    ghost uncovered = { λ _. ⊥ };
+
     fn adds(&self, _connection: &Connection) -> u64 {
         0
     }
@@ -133,6 +151,8 @@ impl Act for Progress {
     ghost commands = { λ act. command.Progress act.0 ∷ [] };
 
     ghost does = { λ act. ObeyingFreely done_reply (command.Progress act.0) };
+
+    ghost uncovered = { λ _. ⊥ };
 
     fn adds(&self, _connection: &Connection) -> u64 {
         0
@@ -155,6 +175,8 @@ impl Act for Cancel {
 
     ghost does = { λ act. ObeyingFreely (cancelled_reply act.0) (command.Cancel (record { 0 = act.0 })) };
 
+    ghost uncovered = { λ _. ⊥ };
+
     fn adds(&self, _connection: &Connection) -> u64 {
         0
     }
@@ -175,6 +197,8 @@ impl Act for FailFlushed {
     ghost commands = { λ act. command.FailFlushed act.0 act.1 ∷ [] };
 
     ghost does = { λ act. TakingQuietly (Failed act.0) (act.1 ≡ false) (command.FailFlushed act.0 act.1) };
+
+    ghost uncovered = { λ _. ⊥ };
 
     fn adds(&self, _connection: &Connection) -> u64 {
         0
@@ -197,6 +221,8 @@ impl Act for Close {
 
     ghost does = { λ act. TakingQuietly (Failed act.0) ⊤ (command.Close act.0) };
 
+    ghost uncovered = { λ _. ⊥ };
+
     fn adds(&self, _connection: &Connection) -> u64 {
         0
     }
@@ -218,6 +244,8 @@ impl Act for GiveUp {
 
     ghost does = { λ act. GivingUp act.0 };
 
+    ghost uncovered = { λ _. ⊥ };
+
     fn adds(&self, _connection: &Connection) -> u64 {
         0
     }
@@ -238,6 +266,8 @@ impl Act for UserBit {
     ghost commands = { λ act. command.UserBit act.0 act.1 ∷ [] };
 
     ghost does = { λ act. ObeyingFreely bit_reply (command.UserBit act.0 act.1) };
+
+    ghost uncovered = { λ _. ⊥ };
 
     fn adds(&self, _connection: &Connection) -> u64 {
         0
@@ -263,6 +293,8 @@ impl Act for SetMarks {
     ghost commands = { λ act. command.SetMarks act.0 ∷ [] };
 
     ghost does = { λ act. ObeyingFreely done_reply (command.SetMarks act.0) };
+
+    ghost uncovered = { λ _. ⊥ };
 
     fn adds(&self, _connection: &Connection) -> u64 {
         0

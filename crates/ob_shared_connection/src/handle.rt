@@ -86,9 +86,9 @@ impl Handle {
     /// what is pending of it is at most what the seat of the cover holds. The numbers and the refusal are those of
     /// `open`; a cover that was not used is let go, with its seat.
     ///
-    /// `act_within` raises the seat for what it writes. Any other call leaves the seat as it is, and is refused as
-    /// `NoMemory` if it would write what that does not hold. `Ended` gives the cover back: a connection whose last
-    /// handle is dropped keeps what it held of the budget.
+    /// `act_within` raises the seat for what it writes. Any other call leaves the seat as it is, since it has nowhere to
+    /// tell a turn of pressure, and a write that the seat does not hold is refused as `Uncovered`. `Ended` gives the
+    /// cover back: a connection whose last handle is dropped keeps what it held of the budget.
     pub fn open_within(
         alloc: Global,
         marks: WaterMark,

@@ -1,5 +1,5 @@
 //! What a write adds to what is pending, and whether a seat holds that beside it.
-ghost use Rattle.std.specs.Prelude.{◌≡◌, ◌≤◌, ◌<◌, ◌+◌, ℕ, true, false, List, [], ◌∷◌, length, Some, IfSome, None};
+ghost use Rattle.std.specs.Prelude.{◌≡◌, ◌≤◌, ◌<◌, ◌+◌, ℕ, true, false, List, [], ◌∷◌, length, Some, IfSome, IsSome, None};
 ghost use Rattle.ob_types.specs.Limits.{greatest_pending_size};
 ghost use Rattle.ob_types.specs.PendingSize.{counted_bytes};
 ghost use Rattle.ob_types.specs.declared.command.Command.TheVariants.{Write};
@@ -71,6 +71,7 @@ fn passes(connection: &Connection, bytes: u64, room: u64) -> bool
 
 /// Whether a connection accepts a message, and its seat does not hold it beside what is pending.
 pub fn room_lacks(connection: &Connection, message: &Message, room: Option<u64>) -> bool
+    ensures within { result ≡ true → IsSome room }
     ensures accepted { result ≡ true → Accepts connection.now (Write message.now) }
     ensures fits { result ≡ false → (bytes : ℕ) → room ≡ Some bytes → Accepts connection.now (Write message.now)
         → FitsIn connection.now (Write message.now ∷ []) bytes }
@@ -83,6 +84,7 @@ pub fn room_lacks(connection: &Connection, message: &Message, room: Option<u64>)
 
 /// The same of a message that counts as many as a block of *n* bytes.
 pub fn room_lacks_block(connection: &Connection, n: usize, room: Option<u64>) -> bool
+    ensures within { result ≡ true → IsSome room }
     ensures accepted { result ≡ true → (message : Message) → CountsAs connection.now n message
         → Accepts connection.now (Write message) }
     ensures fits { result ≡ false → (bytes : ℕ) → room ≡ Some bytes → (message : Message) → CountsAs connection.now n message
@@ -96,6 +98,7 @@ pub fn room_lacks_block(connection: &Connection, n: usize, room: Option<u64>) ->
 
 /// The same of a block of these parts.
 pub fn room_lacks_parts(connection: &Connection, parts: &[&[u8]], room: Option<u64>) -> bool
+    ensures within { result ≡ true → IsSome room }
     ensures accepted { result ≡ true → Accepts connection.now (Write (Block (joined parts.now))) }
     ensures fits { result ≡ false → (bytes : ℕ) → room ≡ Some bytes → Accepts connection.now (Write (Block (joined parts.now)))
         → FitsIn connection.now (Write (Block (joined parts.now)) ∷ []) bytes }

@@ -1,19 +1,22 @@
 //! Writes of messages that are made for them, and writes with the flush behind them, as acts.
-ghost use Rattle.std.specs.Prelude.{[], ◌∷◌};
+ghost use Rattle.std.specs.Prelude.{◌≡◌, [], ◌∷◌};
 ghost use Rattle.ob_types.specs.declared.command.Command.TheVariants as command;
 ghost use Rattle.ob_types.specs.declared.message.Message.TheVariants.{Block};
 ghost use Rattle.ob_connection.specs.Obeying.{joined};
 ghost use Rattle.ob_shared_connection.specs.Acts.{IsOpen};
 ghost use Rattle.ob_shared_connection.specs.Calls.{Flushing, Putting, ThenFlushes, Writing};
+ghost use Rattle.ob_shared_connection.specs.declared.not_written.WriteFault.TheVariants.{Uncovered};
 
 use crate::act::Act;
+use crate::commands::Write;
 use crate::lacking::{
     bytes_added, bytes_added_by, bytes_added_by_parts, room_lacks, room_lacks_block,
     room_lacks_parts,
 };
+use crate::not_written::{NotWritten, WriteFault};
 use crate::written::WrittenAndFlushed;
-use ob_connection::{Connection, Flushed, Refused, Written};
-use ob_types::{Message, Refusal};
+use ob_connection::{Connection, Flushed, Written};
+use ob_types::Message;
 
 /// A write of a message, which is let go if it is refused.
 #[derive(Drop)]
@@ -22,23 +25,25 @@ pub struct Put(pub Message);
 impl Act for Put {
     type Answer = Written;
 
-    type Fault = Refusal;
+    type Fault = WriteFault;
 
     ghost commands = { λ act. command.Write act.0 ∷ [] };
 
     ghost does = { λ act. Putting act.0 };
 
+    ghost uncovered = { λ fault. fault ≡ Uncovered };
+
     fn adds(&self, connection: &Connection) -> u64 {
         bytes_added(connection, &self.0)
     }
 
-    fn act(self, connection: &mut Connection, room: Option<u64>) -> Result<Written, Refusal> {
+    fn act(self, connection: &mut Connection, room: Option<u64>) -> Result<Written, WriteFault> {
         if room_lacks(connection, &self.0, room) {
-            return Err(Refusal::NoMemory);
+            return Err(WriteFault::Uncovered);
         }
         match connection.write(self.0) {
             Ok(written) => Ok(written),
-            Err(refused) => Err(refused.refusal),
+            Err(refused) => Err(WriteFault::Refused(refused.refusal)),
         }
     }
 }
@@ -50,21 +55,26 @@ pub struct WriteCopy<'b>(pub &'b [u8]);
 impl<'b> Act for WriteCopy<'b> {
     type Answer = Written;
 
-    type Fault = Refusal;
+    type Fault = WriteFault;
 
     ghost commands = { λ act. command.Write (Block act.0.now) ∷ [] };
 
     ghost does = { λ act. Putting (Block act.0.now) };
 
+    ghost uncovered = { λ fault. fault ≡ Uncovered };
+
     fn adds(&self, connection: &Connection) -> u64 {
         bytes_added_by(connection, self.0.len())
     }
 
-    fn act(self, connection: &mut Connection, room: Option<u64>) -> Result<Written, Refusal> {
+    fn act(self, connection: &mut Connection, room: Option<u64>) -> Result<Written, WriteFault> {
         if room_lacks_block(connection, self.0.len(), room) {
-            return Err(Refusal::NoMemory);
+            return Err(WriteFault::Uncovered);
         }
-        connection.write_copy(self.0)
+        match connection.write_copy(self.0) {
+            Ok(written) => Ok(written),
+            Err(refusal) => Err(WriteFault::Refused(refusal)),
+        }
     }
 }
 
@@ -75,21 +85,26 @@ pub struct WriteParts<'p, 'b>(pub &'p [&'b [u8]]);
 impl<'p, 'b> Act for WriteParts<'p, 'b> {
     type Answer = Written;
 
-    type Fault = Refusal;
+    type Fault = WriteFault;
 
     ghost commands = { λ act. command.Write (Block (joined act.0.now)) ∷ [] };
 
     ghost does = { λ act. Putting (Block (joined act.0.now)) };
 
+    ghost uncovered = { λ fault. fault ≡ Uncovered };
+
     fn adds(&self, connection: &Connection) -> u64 {
         bytes_added_by_parts(connection, self.0)
     }
 
-    fn act(self, connection: &mut Connection, room: Option<u64>) -> Result<Written, Refusal> {
+    fn act(self, connection: &mut Connection, room: Option<u64>) -> Result<Written, WriteFault> {
         if room_lacks_parts(connection, self.0, room) {
-            return Err(Refusal::NoMemory);
+            return Err(WriteFault::Uncovered);
         }
-        connection.write_parts(self.0)
+        match connection.write_parts(self.0) {
+            Ok(written) => Ok(written),
+            Err(refusal) => Err(WriteFault::Refused(refusal)),
+        }
     }
 }
 
@@ -100,11 +115,13 @@ pub struct WriteAndFlush(pub Message);
 impl Act for WriteAndFlush {
     type Answer = WrittenAndFlushed;
 
-    type Fault = Refused;
+    type Fault = NotWritten;
 
     ghost commands = { λ act. command.Write act.0 ∷ command.Flush ∷ [] };
 
     ghost does = { λ act. ThenFlushes (Writing act.0) };
+
+    ghost uncovered = { λ fault. fault.why ≡ Uncovered };
 
     fn adds(&self, connection: &Connection) -> u64 {
         bytes_added(connection, &self.0)
@@ -114,15 +131,15 @@ impl Act for WriteAndFlush {
         self,
         connection: &mut Connection,
         room: Option<u64>,
-    ) -> Result<WrittenAndFlushed, Refused> {
+    ) -> Result<WrittenAndFlushed, NotWritten> {
         if room_lacks(connection, &self.0, room) {
-            return Err(Refused {
-                refusal: Refusal::NoMemory,
+            return Err(NotWritten {
+                why: WriteFault::Uncovered,
                 message: self.0,
             });
         }
         connection.stands_for_some_commands();
-        let written = connection.write(self.0)?;
+        let written = Write(self.0).act(connection, None)?;
         let flushed = flush_behind(connection);
         Ok(WrittenAndFlushed { written, flushed })
     }
@@ -135,11 +152,13 @@ pub struct PutAndFlush(pub Message);
 impl Act for PutAndFlush {
     type Answer = WrittenAndFlushed;
 
-    type Fault = Refusal;
+    type Fault = WriteFault;
 
     ghost commands = { λ act. command.Write act.0 ∷ command.Flush ∷ [] };
 
     ghost does = { λ act. ThenFlushes (Putting act.0) };
+
+    ghost uncovered = { λ fault. fault ≡ Uncovered };
 
     fn adds(&self, connection: &Connection) -> u64 {
         bytes_added(connection, &self.0)
@@ -149,9 +168,9 @@ impl Act for PutAndFlush {
         self,
         connection: &mut Connection,
         room: Option<u64>,
-    ) -> Result<WrittenAndFlushed, Refusal> {
+    ) -> Result<WrittenAndFlushed, WriteFault> {
         if room_lacks(connection, &self.0, room) {
-            return Err(Refusal::NoMemory);
+            return Err(WriteFault::Uncovered);
         }
         connection.stands_for_some_commands();
         let written = Put(self.0).act(connection, None)?;
@@ -167,11 +186,13 @@ pub struct WriteCopyAndFlush<'b>(pub &'b [u8]);
 impl<'b> Act for WriteCopyAndFlush<'b> {
     type Answer = WrittenAndFlushed;
 
-    type Fault = Refusal;
+    type Fault = WriteFault;
 
     ghost commands = { λ act. command.Write (Block act.0.now) ∷ command.Flush ∷ [] };
 
     ghost does = { λ act. ThenFlushes (Putting (Block act.0.now)) };
+
+    ghost uncovered = { λ fault. fault ≡ Uncovered };
 
     fn adds(&self, connection: &Connection) -> u64 {
         bytes_added_by(connection, self.0.len())
@@ -181,12 +202,12 @@ impl<'b> Act for WriteCopyAndFlush<'b> {
         self,
         connection: &mut Connection,
         room: Option<u64>,
-    ) -> Result<WrittenAndFlushed, Refusal> {
+    ) -> Result<WrittenAndFlushed, WriteFault> {
         if room_lacks_block(connection, self.0.len(), room) {
-            return Err(Refusal::NoMemory);
+            return Err(WriteFault::Uncovered);
         }
         connection.stands_for_some_commands();
-        let written = connection.write_copy(self.0)?;
+        let written = WriteCopy(self.0).act(connection, None)?;
         let flushed = flush_behind(connection);
         Ok(WrittenAndFlushed { written, flushed })
     }

@@ -1,30 +1,33 @@
 //! One call for each command, under the lock.
-ghost use Rattle.std.specs.Prelude.{◌≡◌, true, false, ⊤};
+ghost use Rattle.std.specs.Prelude.{◌≡◌, true, false, ⊤, IfErr};
 ghost use Rattle.ob_types.specs.declared.command.Command.TheVariants as command;
 ghost use Rattle.ob_types.specs.declared.message.Message.TheVariants.{Block};
 ghost use Rattle.ob_types.specs.declared.promise.Outcome.TheVariants.{Success, Failed};
 ghost use Rattle.ob_connection.specs.Obeying.{flushed_reply, removed_reply, taken_reply, cancelled_reply, bit_reply};
 ghost use Rattle.ob_connection.specs.Obeying.{done_reply};
 ghost use Rattle.ob_shared_connection.specs.Calls.{GivingUp, IsCall, Makes, ObeyingFreely, Taking};
-ghost use Rattle.ob_shared_connection.specs.Calls.{Puts, TakingQuietly, Writes, giving_up};
+ghost use Rattle.ob_shared_connection.specs.Calls.{IsUncoveredOnlyWithin, Puts, TakingQuietly, Writes, giving_up};
 
 use crate::commands;
 use crate::guard::Guard;
+use crate::not_written::{NotWritten, WriteFault};
 use crate::writes::WriteCopy;
-use ob_connection::{Flushed, Refused, Removed, Taken, Written};
+use ob_connection::{Flushed, Removed, Taken, Written};
 use ob_types::{Cause, Change, Message, Refusal, WaterMark};
 
 impl Guard {
     /// Adds a message behind all others, as `Connection::write`: one that is refused comes back.
-    pub fn write(&mut self, message: Message) -> Result<Written, Refused>
-        ensures { Writes message result self.old self.new }
+    pub fn write(&mut self, message: Message) -> Result<Written, NotWritten>
+        ensures writes { Writes message result self.old self.new }
+        ensures covered { IfErr result (λ refused. IsUncoveredOnlyWithin refused.why self.old.handle.budget) }
     {
         self.caller.act(commands::Write(message))
     }
 
     /// Adds a copy of these bytes behind all others, as `Connection::write_copy`.
-    pub fn write_copy(&mut self, bytes: &[u8]) -> Result<Written, Refusal>
-        ensures { Puts (Block bytes.now) result self.old self.new }
+    pub fn write_copy(&mut self, bytes: &[u8]) -> Result<Written, WriteFault>
+        ensures writes { Puts (Block bytes.now) result self.old self.new }
+        ensures covered { IfErr result (λ refused. IsUncoveredOnlyWithin refused self.old.handle.budget) }
     {
         self.caller.act(WriteCopy(bytes))
     }

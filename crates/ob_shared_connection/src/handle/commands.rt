@@ -1,25 +1,28 @@
 //! The calls that take nothing away, each of which takes the lock for it.
-ghost use Rattle.std.specs.Prelude.{⊤};
+ghost use Rattle.std.specs.Prelude.{⊤, IfErr};
 ghost use Rattle.ob_types.specs.declared.command.Command.TheVariants as command;
 ghost use Rattle.ob_types.specs.declared.message.Message.TheVariants.{Block};
 ghost use Rattle.ob_types.specs.declared.promise.Outcome.TheVariants.{Failed};
 ghost use Rattle.ob_connection.specs.Obeying.{flushed_reply, cancelled_reply, bit_reply, done_reply};
 ghost use Rattle.ob_shared_connection.specs.Calls.{Makes, ObeyingFreely, TakingQuietly, UnderLock};
-ghost use Rattle.ob_shared_connection.specs.Calls.{Puts, PutsAndFlushes, Writes, WritesAndFlushes};
+ghost use Rattle.ob_shared_connection.specs.Calls.{IsUncoveredOnlyWithin, Puts, PutsAndFlushes, Writes, WritesAndFlushes};
 
 use crate::commands;
 use crate::handle::Handle;
+use crate::not_written::{NotWritten, WriteFault};
 use crate::writes::{WriteAndFlush, WriteCopy, WriteCopyAndFlush};
 use crate::written::WrittenAndFlushed;
-use ob_connection::{Flushed, Refused, Taken, Written};
+use ob_connection::{Flushed, Taken, Written};
 use ob_types::{Cause, Change, Message, Refusal, WaterMark};
 use std::sync::Wait;
 
 impl Handle {
-    /// Adds a message behind all others, as `Connection::write`: one that is refused comes back.
+    /// Adds a message behind all others, as `Connection::write`: one that is refused comes back. Of a connection within a
+    /// budget it is `Uncovered` if the seat does not hold it: `act_within` raises that.
     #[inline(always)]
-    pub fn write<R: Wait>(&mut self, rt: &R, message: Message) -> Result<Written, Refused>
-        ensures { UnderLock self.old (Writes message result) self.new }
+    pub fn write<R: Wait>(&mut self, rt: &R, message: Message) -> Result<Written, NotWritten>
+        ensures under { UnderLock self.old (Writes message result) self.new }
+        ensures covered { IfErr result (λ refused. IsUncoveredOnlyWithin refused.why self.old.budget) }
     {
         self.caller.call(rt, commands::Write(message))
     }
@@ -27,8 +30,9 @@ impl Handle {
     /// Adds a copy of these bytes behind all others, as `Connection::write_copy`: few bytes share memory with other messages.
     /// They are copied under the lock, so write many as a block that is made before.
     #[inline(always)]
-    pub fn write_copy<R: Wait>(&mut self, rt: &R, bytes: &[u8]) -> Result<Written, Refusal>
-        ensures { UnderLock self.old (Puts (Block bytes.now) result) self.new }
+    pub fn write_copy<R: Wait>(&mut self, rt: &R, bytes: &[u8]) -> Result<Written, WriteFault>
+        ensures under { UnderLock self.old (Puts (Block bytes.now) result) self.new }
+        ensures covered { IfErr result (λ refused. IsUncoveredOnlyWithin refused self.old.budget) }
     {
         self.caller.call(rt, WriteCopy(bytes))
     }
@@ -41,8 +45,9 @@ impl Handle {
         &mut self,
         rt: &R,
         message: Message,
-    ) -> Result<WrittenAndFlushed, Refused>
-        ensures { UnderLock self.old (WritesAndFlushes message result) self.new }
+    ) -> Result<WrittenAndFlushed, NotWritten>
+        ensures under { UnderLock self.old (WritesAndFlushes message result) self.new }
+        ensures covered { IfErr result (λ refused. IsUncoveredOnlyWithin refused.why self.old.budget) }
     {
         self.caller.call(rt, WriteAndFlush(message))
     }
@@ -53,8 +58,9 @@ impl Handle {
         &mut self,
         rt: &R,
         bytes: &[u8],
-    ) -> Result<WrittenAndFlushed, Refusal>
-        ensures { UnderLock self.old (PutsAndFlushes (Block bytes.now) result) self.new }
+    ) -> Result<WrittenAndFlushed, WriteFault>
+        ensures under { UnderLock self.old (PutsAndFlushes (Block bytes.now) result) self.new }
+        ensures covered { IfErr result (λ refused. IsUncoveredOnlyWithin refused self.old.budget) }
     {
         self.caller.call(rt, WriteCopyAndFlush(bytes))
     }

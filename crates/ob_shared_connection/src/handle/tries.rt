@@ -1,5 +1,5 @@
 //! The calls that are made if the lock is free. They wait for nobody, and wake nobody: each tells whom to wake.
-ghost use Rattle.std.specs.Prelude.{◌≡◌, IfErr, IfOk, IfSome, None, OnErr};
+ghost use Rattle.std.specs.Prelude.{◌≡◌, ◌≢◌, IfErr, IfOk, IfSome, None, OnErr};
 ghost use Rattle.ob_shared_connection.specs.Calls.{IsCall, UnderLock};
 ghost use Rattle.ob_shared_connection.specs.Looking.{IsLook};
 ghost use Rattle.ob_shared_connection.specs.Removals.{MayGive};
@@ -22,6 +22,7 @@ impl Handle {
         requires { MayGive self.old.sends (A.commands act) }
         ensures under { IfOk result (λ told. UnderLock self.old
             (λ before after. IsCall (A.does act) (A.commands act) before told.0 after) self.new) }
+        ensures covered { IfOk result (λ told. IfErr told.0 (λ fault. A.uncovered fault → self.old.budget ≢ None)) }
         ensures busy { OnErr result (self.new ≡ self.old) }
         ensures back { IfErr result (λ again. again ≡ act) }
     {

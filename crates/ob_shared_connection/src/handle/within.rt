@@ -1,5 +1,5 @@
 //! The calls of a connection within a budget.
-ghost use Rattle.std.specs.Prelude.{◌≡◌, IfErr, IfOk, IsOk, None, OnErr};
+ghost use Rattle.std.specs.Prelude.{◌≡◌, IfErr, IfOk, IfSome, IsOk, None, OnErr};
 ghost use Rattle.ob_shared_connection.specs.Calls.{UnderLock};
 ghost use Rattle.ob_shared_connection.specs.Covering.{ActsWithin, Settles};
 ghost use Rattle.ob_shared_connection.specs.Removals.{MayGive};
@@ -68,5 +68,22 @@ impl Handle {
         ensures { UnderLock self.old (Settles 0 result) self.new }
     {
         self.caller.rest_under_lock(rt)
+    }
+    /// Gives back what is spare, as `settle`, if the lock is free: None if it is taken. It waits for nobody, and wakes
+    /// nobody: it tells whom to wake.
+    pub fn try_settle(&mut self) -> Option<(Option<Pressure>, Wakes)>
+        ensures under { IfSome result (λ told. UnderLock self.old (Settles 2 told.0) self.new) }
+        ensures busy { result ≡ None → self.new ≡ self.old }
+    {
+        self.caller.try_settle_under_lock()
+    }
+
+    /// Gives back all above what is pending, as `rest`, if the lock is free: None if it is taken. It waits for nobody, and
+    /// wakes nobody: it tells whom to wake.
+    pub fn try_rest(&mut self) -> Option<(Option<Pressure>, Wakes)>
+        ensures under { IfSome result (λ told. UnderLock self.old (Settles 0 told.0) self.new) }
+        ensures busy { result ≡ None → self.new ≡ self.old }
+    {
+        self.caller.try_rest_under_lock()
     }
 }

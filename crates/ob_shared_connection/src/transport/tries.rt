@@ -1,6 +1,6 @@
 //! The calls of a transport that are made if the lock is free. They wait for nobody, and wake nobody: each tells whom to
 //! wake.
-ghost use Rattle.std.specs.Prelude.{◌≡◌, ◌<◌, IfErr, IfOk, IfSome, IsOk, None, OnErr};
+ghost use Rattle.std.specs.Prelude.{◌≡◌, ◌≢◌, ◌<◌, IfErr, IfOk, IfSome, IsOk, None, OnErr};
 ghost use Rattle.ob_types.specs.declared.command.Command.TheVariants as command;
 ghost use Rattle.ob_types.specs.declared.promise.Outcome.TheVariants.{Success};
 ghost use Rattle.ob_seq.specs.Effect.{bytes_in};
@@ -26,6 +26,7 @@ impl Transport {
     pub fn try_act<A: Act>(&mut self, act: A) -> Result<(Result<A::Answer, A::Fault>, Wakes), A>
         ensures under { IfOk result (λ told. UnderLock self.old
             (λ before after. IsCall (A.does act) (A.commands act) before told.0 after) self.new) }
+        ensures covered { IfOk result (λ told. IfErr told.0 (λ fault. A.uncovered fault → self.old.budget ≢ None)) }
         ensures busy { OnErr result (self.new ≡ self.old) }
         ensures back { IfErr result (λ again. again ≡ act) }
     {

@@ -1,13 +1,13 @@
 //! Connections within one budget of 1000 bytes, with marks of 200 and 800. A block of four bytes counts 100.
 ghost use Rattle.std.specs.Prelude.{◌≡◌, true, IfOk};
 
-use crate::tests::{four, tried, watch};
+use crate::tests::{four, told, tried, watch};
 use ob_budget::{Bounds, Pressure, RaiseFault};
 use ob_covered::{Cover, Told};
 use ob_shared_connection::commands::{Remove, Write};
 use ob_shared_connection::writes::WriteAndFlush;
-use ob_shared_connection::{Ended, Handle, OverBudget, Transport, looks};
-use ob_types::{Estimate, Refusal, WaterMark};
+use ob_shared_connection::{Ended, Handle, OverBudget, Transport, Wakes, WriteFault, looks};
+use ob_types::{Estimate, WaterMark};
 use std::alloc::Global;
 use std::process::Abort;
 use std::sync::Wait;
@@ -95,11 +95,11 @@ fn a_write_that_is_not_told_takes_no_more_than_the_seat_holds(rt: HostRuntime) -
     let Err(refused) = handle.write(&rt, four()) else {
         panic!(rt; "the seat holds nothing")
     };
-    assert!(rt; refused.refusal == Refusal::NoMemory && refused.message == four());
+    assert!(rt; refused.why == WriteFault::Uncovered && refused.message == four());
     let mut guard = handle.lock(&rt);
     assert!(rt; guard.act_within(Write(four())).answer.is_ok());
     assert!(rt; guard.ask(looks::Look).total == 100 && guard.settle().is_none());
-    assert!(rt; guard.write_copy(b"four") == Err(Refusal::NoMemory));
+    assert!(rt; guard.write_copy(b"four") == Err(WriteFault::Uncovered));
     Ok(())
 }
 
@@ -118,6 +118,37 @@ fn an_idle_connection_gives_back_its_quantum(rt: HostRuntime) -> Result<(), Fail
     let mut writer = guard.unlock();
     assert!(rt; writer.rest(&rt).is_none() && cover.look().total == 200);
     Ok(())
+}
+
+#[test]
+fn what_is_tried_gives_back_too_if_the_lock_is_free(rt: HostRuntime) -> Result<(), Fail> {
+    let mut cover = budget(rt.alloc(), 300)?;
+    let mut transport = within(rt.alloc(), &mut cover)?.into_transport();
+    let mut writer = transport.another()?;
+    assert!(rt; write(&rt, &mut writer) == Ok(None) && writer.flush(&rt).is_ok());
+    let guard = transport.another()?.lock(&rt);
+    assert!(rt; given(writer.try_rest()).is_none() && given(transport.try_rest()).is_none());
+    assert!(rt; given(writer.try_settle()).is_none() && given(transport.try_settle()).is_none());
+    assert!(rt; tried(transport.try_act_within(Remove)).is_err() && cover.look().total == 300);
+    drop(guard);
+    // one quantum is no more than two
+    assert!(rt; given(writer.try_settle()) == Some(None) && cover.look().total == 300);
+    assert!(rt; given(writer.try_rest()) == Some(None) && cover.look().total == 100);
+    assert!(rt; tried(transport.try_act_within(Remove)).is_ok() && cover.look().total == 100);
+    assert!(rt; given(transport.try_settle()) == Some(None) && cover.look().total == 100);
+    assert!(rt; given(transport.try_rest()) == Some(None) && cover.look().total == 0);
+    Ok(())
+}
+
+/// The turn of pressure, if the lock was free.
+fn given(gave: Option<(Option<Pressure>, Wakes)>) -> Option<Option<Pressure>> {
+    match gave {
+        Some((pressure, wakes)) => {
+            let _whom = told(wakes);
+            Some(pressure)
+        }
+        None => None,
+    }
 }
 
 #[test]

@@ -2,7 +2,7 @@
 
 use crate::tests::{flushed, four, opened};
 use ob_connection::Status;
-use ob_shared_connection::{Glance, looks};
+use ob_shared_connection::{Glance, WriteFault, looks};
 use ob_types::{Cause, Change, Outcome, Refusal, WaterMark};
 use std::test::Fail;
 
@@ -153,7 +153,7 @@ fn a_refused_message_comes_back(rt: HostRuntime) -> Result<(), Fail> {
     let Err(second) = guard.write(first.message) else {
         panic!(rt; "it is closed still")
     };
-    assert!(rt; (second.refusal, second.message) == (Refusal::Closed, four()));
+    assert!(rt; (second.why, second.message) == (WriteFault::Refused(Refusal::Closed), four()));
     Ok(())
 }
 

@@ -8,7 +8,7 @@ use ob_players::story::Story;
 use ob_players::trace::{push_answer, push_levels, push_look};
 use ob_players::words::{NoAnswer, Words};
 use ob_seq::Look;
-use ob_shared_connection::{Handle, Transport, looks};
+use ob_shared_connection::{Handle, NotWritten, Transport, WriteFault, looks};
 use ob_stories::RUN;
 use ob_types::{Answer, Change, Command, Message, Outcome, PromiseId, Refusal, Reply, Settlements};
 use std::alloc::Global;
@@ -136,10 +136,11 @@ impl Handles {
     /// Writes by the two writers in turn.
     fn write<R: Wait>(&mut self, rt: &R, message: Message) -> Result<Reply, Refusal> {
         let written = if self.written % 2 == 0 {
-            self.writer.write(rt, message)?
+            self.writer.write(rt, message)
         } else {
-            self.other.write(rt, message)?
+            self.other.write(rt, message)
         };
+        let written = written.map_err(refusal_of)?;
         self.written = self.written.wrapping_add(1);
         Ok(self.settling_none(Answer::Id(promise(written.id)), written.change))
     }
@@ -235,4 +236,12 @@ fn the_worked_rows_through_handles(rt: HostRuntime) -> Result<(), Fail> {
     }
     assert!(rt; answered > 150);
     Ok(())
+}
+
+/// Why a connection within no budget refused a message.
+fn refusal_of(refused: NotWritten) -> Refusal {
+    match refused.why {
+        WriteFault::Refused(refusal) => refusal,
+        WriteFault::Uncovered => Refusal::NoMemory,
+    }
 }

@@ -2,9 +2,12 @@
 
 use crate::tests::{flushed, four, opened, tried};
 use ob_connection::Status;
-use ob_shared_connection::{commands, looks, writes};
+use ob_shared_connection::{WriteFault, commands, looks, writes};
 use ob_types::{Cause, Change, Message, Refusal, WaterMark};
 use std::test::Fail;
+
+/// What a write to a closed connection answers.
+const CLOSED: WriteFault = WriteFault::Refused(Refusal::Closed);
 
 #[test]
 fn a_write_is_flushed_behind_it(rt: HostRuntime) -> Result<(), Fail> {
@@ -32,12 +35,12 @@ fn a_write_that_is_refused_is_not_flushed(rt: HostRuntime) -> Result<(), Fail> {
     let Err(refused) = writer.write_and_flush(&rt, four()) else {
         panic!(rt; "it is closed")
     };
-    assert!(rt; (refused.refusal, refused.message) == (Refusal::Closed, four()));
+    assert!(rt; (refused.why, refused.message) == (CLOSED, four()));
     let Ok(Err(again)) = tried(writer.try_act(writes::WriteAndFlush(four()))) else {
         panic!(rt; "the lock is free, and it is closed")
     };
-    assert!(rt; (again.refusal, again.message) == (Refusal::Closed, four()));
-    assert!(rt; writer.write_copy_and_flush(&rt, b"x") == Err(Refusal::Closed));
+    assert!(rt; (again.why, again.message) == (CLOSED, four()));
+    assert!(rt; writer.write_copy_and_flush(&rt, b"x") == Err(CLOSED));
     Ok(())
 }
 

@@ -1,6 +1,6 @@
-use Rattle.ob_c.specs.Replies.{written_in_c}
-use Rattle.ob_c.proofs.Trying.{told_in}
+use Rattle.ob_c.specs.Puts.{put_in_c}
+use Rattle.ob_c.proofs.Trying.{made_in}
 use Rattle.ob_c.proofs.tries.limekeel_shared_write_region.Goals as goal
 
 pub returns : goal.returns
-returns c = told_in _ _ written_in_c _ _ _ c.obey.ensures c.of.ensures
+returns c = made_in _ _ put_in_c _ _ _ c.make.ensures c.put.ensures

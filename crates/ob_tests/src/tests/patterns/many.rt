@@ -6,7 +6,7 @@ use bytes::Bytes;
 use ob_patterns::{
     Reached, broadcast, forward, forwarded, most_frame_bytes, respond_from_any_thread,
 };
-use ob_shared_connection::Handle;
+use ob_shared_connection::{Handle, WriteFault};
 use ob_types::{Cause, Estimate, Refusal, WaterMark};
 use std::test::Fail;
 
@@ -72,13 +72,13 @@ fn a_thread_writes_and_the_one_with_the_socket_sends(rt: HostRuntime) -> Result<
             [first, second].map(|done| done.map(|done| done.written.id).ok()),
             sent,
             socket.log.as_slice(),
-            late.err().map(|refused| refused.refusal),
+            late.err().map(|refused| refused.why),
         ),
         (
             [Some(0), Some(1)],
             [Some(3), Some(1), Some(1)],
             b"fourf".as_slice(),
-            Some(Refusal::Closed),
+            Some(WriteFault::Refused(Refusal::Closed)),
         )
     );
     drop((transport, writer, other, socket));

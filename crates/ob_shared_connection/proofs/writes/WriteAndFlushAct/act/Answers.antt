@@ -7,11 +7,11 @@ use Rattle.ob_shared_connection.proofs.writes.WriteAndFlushAct.act.Goals as goal
 
 pub returns-clause-goes_on : goal.returns-clause-goes_on
 returns-clause-goes_on c =
-    write_and_flush_go_on c.args.connection.now c.write.new.self c.flush_behind-flushed.new.connection c.args.self.0
-    c.in_ok-written.written c.flush_behind-flushed.result c.in_ok-written.ensures.obeys c.flush_behind-flushed.ensures
+    write_and_flush_go_on c.args.connection.now c.act.new.connection c.flush_behind-flushed.new.connection c.args.self.0
+    c.in_ok-written.written c.flush_behind-flushed.result c.in_ok-written.ensures.does.obeys c.flush_behind-flushed.ensures
 
 pub returns-clause-fits : goal.returns-clause-fits
 returns-clause-fits c bytes is ok before now within =
     c.room_lacks.ensures.fits c.if-room_lacks.false bytes is
-    (accepts_obeyed c.args.connection.now c.write.new.self (Write c.args.self.0) written_reply (Ok c.in_ok-written.written) refl
-    c.in_ok-written.ensures.obeys) before now within
+    (accepts_obeyed c.args.connection.now c.act.new.connection (Write c.args.self.0) written_reply (Ok c.in_ok-written.written) refl
+    c.in_ok-written.ensures.does.obeys) before now within

@@ -8,12 +8,12 @@ use Rattle.ob_shared_connection.proofs.writes.WriteCopyAndFlushAct.act.Goals as 
 
 pub returns-clause-goes_on : goal.returns-clause-goes_on
 returns-clause-goes_on c =
-    write_and_flush_go_on c.args.connection.now c.write_copy.new.self c.flush_behind-flushed.new.connection (Block c.args.self.0.now)
-    c.in_ok-written.written c.flush_behind-flushed.result c.in_ok-written.ensures.obeys c.flush_behind-flushed.ensures
+    write_and_flush_go_on c.args.connection.now c.act.new.connection c.flush_behind-flushed.new.connection (Block c.args.self.0.now)
+    c.in_ok-written.written c.flush_behind-flushed.result c.in_ok-written.ensures.does c.flush_behind-flushed.ensures
 
 pub returns-clause-fits : goal.returns-clause-fits
 returns-clause-fits c bytes is ok before now within =
     c.room_lacks_block.ensures.fits c.if-room_lacks_block.false bytes is (Block c.args.self.0.now)
     (record { counts = refl; short = refl })
-    (accepts_obeyed c.args.connection.now c.write_copy.new.self (Write (Block c.args.self.0.now)) written_reply
-    (Ok c.in_ok-written.written) refl c.in_ok-written.ensures.obeys) before now within
+    (accepts_obeyed c.args.connection.now c.act.new.connection (Write (Block c.args.self.0.now)) written_reply
+    (Ok c.in_ok-written.written) refl c.in_ok-written.ensures.does) before now within
