@@ -65,7 +65,7 @@ extern "C" {
 
 /* A number of the structs, functions and numbers of this header. limekeel_open says LIMEKEEL_OTHER_VERSION to an archive of
  * another. Before 1.0 each version may have another. */
-#define LIMEKEEL_EDGE 3281395174u
+#define LIMEKEEL_EDGE 4237248169u
 
 /* What may tell a change of writability is not to be dropped. */
 #if (defined(__cplusplus) && __cplusplus >= 201703L) || (defined(__STDC_VERSION__) && __STDC_VERSION__ >= 202311L)
@@ -100,7 +100,7 @@ enum limekeel_status {
                                     * the budget: try again */
     LIMEKEEL_FINISHING = 19,       /* the end of the managed connection was asked for */
     LIMEKEEL_FULL = 20,            /* more bytes would be pending than the managed connection may hold */
-    LIMEKEEL_OVER_BUDGET = 21,     /* the budget has no room for the message */
+    LIMEKEEL_OVER_BUDGET = 21,     /* the budget has no room for the message, or the seat of a shared connection does not hold it */
     LIMEKEEL_BAD_BOUNDS = 22       /* the low mark of the budget is above the high mark, or its room above 2^62 - 1 */
 };
 
@@ -413,6 +413,11 @@ struct limekeel_pressed_written {
     uint32_t pressure;
 };
 
+struct limekeel_pressed_written_and_flushed {
+    struct limekeel_written_and_flushed done;
+    uint32_t pressure;
+};
+
 struct limekeel_pressed_flushed {
     struct limekeel_flushed flushed;
     uint32_t pressure;
@@ -490,6 +495,7 @@ LIMEKEEL_LAYOUT(limekeel_budgeted, 8, at, 0);
 LIMEKEEL_LAYOUT(limekeel_budget_told, 16, total, 8);
 LIMEKEEL_LAYOUT(limekeel_pressed_done, 8, pressure, 4);
 LIMEKEEL_LAYOUT(limekeel_pressed_written, 24, pressure, 16);
+LIMEKEEL_LAYOUT(limekeel_pressed_written_and_flushed, 40, pressure, 32);
 LIMEKEEL_LAYOUT(limekeel_pressed_flushed, 24, pressure, 16);
 LIMEKEEL_LAYOUT(limekeel_pressed_removed, 40, pressure, 32);
 LIMEKEEL_LAYOUT(limekeel_pressed_taken, 48, pressure, 40);
@@ -842,6 +848,44 @@ LIMEKEEL_TOLD struct limekeel_taken limekeel_shared_close(struct limekeel_shared
 LIMEKEEL_TOLD struct limekeel_changed limekeel_shared_user_bit(struct limekeel_shared *shared, uint32_t index, bool writable);
 LIMEKEEL_TOLD uint32_t limekeel_shared_set_marks(struct limekeel_shared *shared, uint32_t low, uint32_t high);
 
+/* A connection within a budget: at each moment what is pending of it is at most what its seat holds, so all connections of the
+ * budget hold its room at most, on whatever threads.
+ *
+ * Opens one, as limekeel_shared_open. It holds nothing before its first write. LIMEKEEL_NOT_OPEN says that the budget owns
+ * nothing. The calls above leave the seat as it is, and a write of them is LIMEKEEL_OVER_BUDGET past what that holds: write by
+ * the calls below. Call limekeel_shared_open_within. */
+uint32_t limekeel_shared_open_within_for(struct limekeel_transport *transport, uint32_t edge, uint32_t low, uint32_t high,
+                                         uint32_t overhead, uint32_t unknown, struct limekeel_budget *budget);
+static inline uint32_t limekeel_shared_open_within(struct limekeel_transport *transport, uint32_t low, uint32_t high,
+                                                   uint32_t overhead, uint32_t unknown, struct limekeel_budget *budget)
+{
+    return limekeel_shared_open_within_for(transport, LIMEKEEL_EDGE, low, high, overhead, unknown, budget);
+}
+
+/* Each writes as the call without `_within`, once the seat holds what the message counts: the seat takes what it lacks, or the
+ * quantum. LIMEKEEL_OVER_BUDGET says that the budget has no room for that, and LIMEKEEL_BUSY also that others came in between
+ * 65536 times; nothing changed then. Of a connection that was opened within no budget it is the same call. */
+LIMEKEEL_TOLD struct limekeel_pressed_written limekeel_shared_write_bytes_within(struct limekeel_shared *shared,
+                                                                                 const uint8_t *bytes, size_t length);
+LIMEKEEL_TOLD struct limekeel_pressed_written limekeel_shared_write_block_within(struct limekeel_shared *shared,
+                                                                                 const struct limekeel_block *block);
+LIMEKEEL_TOLD struct limekeel_pressed_written_and_flushed limekeel_shared_write_and_flush_bytes_within(
+    struct limekeel_shared *shared, const uint8_t *bytes, size_t length);
+LIMEKEEL_TOLD struct limekeel_pressed_written_and_flushed limekeel_shared_write_and_flush_block_within(
+    struct limekeel_shared *shared, const struct limekeel_block *block);
+LIMEKEEL_TOLD struct limekeel_pressed_written limekeel_shared_write_lent_bytes_within(struct limekeel_shared *shared,
+                                                                                      const uint8_t *bytes, size_t length);
+LIMEKEEL_TOLD struct limekeel_pressed_written limekeel_shared_write_region_within(struct limekeel_shared *shared,
+                                                                                  uint64_t length);
+LIMEKEEL_TOLD struct limekeel_pressed_written limekeel_shared_write_other_within(struct limekeel_shared *shared, uint32_t value);
+
+/* Gives back what the seat holds above two quanta beside what is pending, down to one: after a sending. Or all of it: for a
+ * connection that is idle, and before the last handle is freed, which gives all back and tells no change of pressure. */
+LIMEKEEL_TOLD struct limekeel_pressed_done limekeel_shared_settle(struct limekeel_shared *shared);
+LIMEKEEL_TOLD struct limekeel_pressed_done limekeel_transport_settle(struct limekeel_transport *transport);
+LIMEKEEL_TOLD struct limekeel_pressed_done limekeel_shared_rest(struct limekeel_shared *shared);
+LIMEKEEL_TOLD struct limekeel_pressed_done limekeel_transport_rest(struct limekeel_transport *transport);
+
 /* What is pending now, as limekeel_look, and what has become of a promise, as limekeel_promise, if the lock is free. */
 struct limekeel_look_told limekeel_shared_look(struct limekeel_shared *shared);
 struct limekeel_promise_told limekeel_shared_promise(struct limekeel_shared *shared, uint64_t id);
@@ -990,6 +1034,27 @@ LIMEKEEL_TOLD static inline struct limekeel_written limekeel_shared_write_lent(s
                                                                                const void *bytes, size_t length)
 {
     return limekeel_shared_write_lent_bytes(shared, length > 0 ? (const uint8_t *)bytes : (const uint8_t *)"", length);
+}
+
+LIMEKEEL_TOLD static inline struct limekeel_pressed_written limekeel_shared_write_within(struct limekeel_shared *shared,
+                                                                                         const void *bytes, size_t length)
+{
+    return limekeel_shared_write_bytes_within(shared, length > 0 ? (const uint8_t *)bytes : (const uint8_t *)"", length);
+}
+
+LIMEKEEL_TOLD static inline struct limekeel_pressed_written_and_flushed limekeel_shared_write_and_flush_within(
+    struct limekeel_shared *shared, const void *bytes, size_t length)
+{
+    return limekeel_shared_write_and_flush_bytes_within(shared, length > 0 ? (const uint8_t *)bytes : (const uint8_t *)"",
+                                                        length);
+}
+
+LIMEKEEL_TOLD static inline struct limekeel_pressed_written limekeel_shared_write_lent_within(struct limekeel_shared *shared,
+                                                                                              const void *bytes,
+                                                                                              size_t length)
+{
+    return limekeel_shared_write_lent_bytes_within(shared, length > 0 ? (const uint8_t *)bytes : (const uint8_t *)"",
+                                                   length);
 }
 
 /* Whether writers may go on, as a glance shows: it takes no lock. */

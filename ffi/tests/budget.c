@@ -5,6 +5,7 @@
 #define _POSIX_C_SOURCE 200809L
 #include <inttypes.h>
 #include <pthread.h>
+#include <sched.h>
 #include <stdatomic.h>
 #include <stdio.h>
 #include <stdlib.h>
@@ -311,6 +312,136 @@ static void is_shared(void)
     expect("freed", limekeel_budget_free(&budget) == LIMEKEEL_OK);
 }
 
+/* Whether all connections hold as many bytes. */
+static bool holds(struct limekeel_budget *budget, uint64_t total)
+{
+    struct limekeel_budget_told told = limekeel_budget_look(budget);
+    return told.status == LIMEKEEL_OK && told.total == total;
+}
+
+static bool gave(struct limekeel_pressed_done told, uint32_t status, uint32_t pressure)
+{
+    return told.status == status && told.pressure == pressure;
+}
+
+/* A connection with two handles within a budget that has no room beyond ten messages of 100 bytes. */
+static void shares_a_connection(void)
+{
+    struct limekeel_budget budget = budget_of(1000, 200, 800, 0);
+    struct limekeel_transport transport = LIMEKEEL_TRANSPORT;
+    struct limekeel_shared shared = LIMEKEEL_SHARED;
+    struct limekeel_block block = LIMEKEEL_BLOCK;
+    expect("nothing is open", was(limekeel_shared_write_within(&shared, "four", 4), LIMEKEEL_NOT_OPEN, 0) &&
+                                  gave(limekeel_shared_rest(&shared), LIMEKEEL_NOT_OPEN, 0) &&
+                                  gave(limekeel_transport_settle(&transport), LIMEKEEL_NOT_OPEN, 0));
+    expect("it opens", limekeel_shared_open_within(&transport, 5000, 9000, OVERHEAD, 8, &budget) == LIMEKEEL_OK);
+    expect("but once", limekeel_shared_open_within(&transport, 5000, 9000, OVERHEAD, 8, &budget) == LIMEKEEL_ALREADY_OPEN);
+    expect("a handle", limekeel_transport_another(&transport, &shared) == LIMEKEEL_OK);
+    expect("a block", limekeel_block_new(&block, "four", 4) == LIMEKEEL_OK);
+    expect("no other call takes of the budget",
+           limekeel_shared_write(&shared, "four", 4).status == LIMEKEEL_OVER_BUDGET && holds(&budget, 0));
+    expect("bytes", was(limekeel_shared_write_within(&shared, "four", 4), LIMEKEEL_OK, LIMEKEEL_PRESSURE_UNCHANGED));
+    expect("a block's", was(limekeel_shared_write_block_within(&shared, &block), LIMEKEEL_OK, 0));
+    expect("lent ones", was(limekeel_shared_write_lent_within(&shared, "four", 4), LIMEKEEL_OK, 0));
+    expect("a region", was(limekeel_shared_write_region_within(&shared, 5), LIMEKEEL_OK, 0));
+    expect("any other", was(limekeel_shared_write_other_within(&shared, 7), LIMEKEEL_OK, 0) && holds(&budget, 500));
+    struct limekeel_pressed_written_and_flushed both = limekeel_shared_write_and_flush_block_within(&shared, &block);
+    expect("with a flush", both.done.status == LIMEKEEL_OK && both.done.count == 6 && both.pressure == 0);
+    both = limekeel_shared_write_and_flush_within(&shared, "four hundred more", 17);
+    expect("and of bytes", both.done.status == LIMEKEEL_OK && both.done.count == 1 && holds(&budget, 713));
+    expect("pressure begins", was(limekeel_shared_write_within(&shared, "four", 4), LIMEKEEL_OK, LIMEKEEL_PRESSURE_BEGAN));
+    expect("no room", was(limekeel_shared_write_within(&shared, (uint8_t[200]){0}, 200), LIMEKEEL_OVER_BUDGET, 0));
+    expect("removals keep the seat", limekeel_transport_fail_flushed(&transport, 1, true).status == LIMEKEEL_OK &&
+                                         holds(&budget, 813));
+    expect("it settles", gave(limekeel_transport_settle(&transport), LIMEKEEL_OK, LIMEKEEL_PRESSURE_ENDED) && holds(&budget, 100));
+    expect("once", gave(limekeel_shared_settle(&shared), LIMEKEEL_OK, 0) && gave(limekeel_shared_rest(&shared), LIMEKEEL_OK, 0) &&
+                       gave(limekeel_transport_rest(&transport), LIMEKEEL_OK, 0) && holds(&budget, 100));
+    expect("the handle goes", limekeel_shared_free(&shared) == LIMEKEEL_OK && holds(&budget, 100));
+    expect("the last gives all back", limekeel_transport_free(&transport) == LIMEKEEL_OK && holds(&budget, 0));
+    expect("none is left", limekeel_block_free(&block) == LIMEKEEL_OK && limekeel_budget_free(&budget) == LIMEKEEL_OK);
+}
+
+/* Three threads of one connection in a room of ten messages: two that write, and one that takes away what they flushed. One
+ * after the other they would not end: what the first writes fills the room, and none of the others makes any. */
+struct crossing {
+    struct limekeel_shared shared;
+    struct limekeel_budget budget;
+    uint64_t began, ended;
+};
+static struct limekeel_transport sends_for_all = LIMEKEEL_TRANSPORT;
+static atomic_int crossing_ready;
+
+static void turned(struct crossing *crossing, uint32_t pressure)
+{
+    crossing->began += pressure == LIMEKEEL_PRESSURE_BEGAN;
+    crossing->ended += pressure == LIMEKEEL_PRESSURE_ENDED;
+}
+
+static void *writes_for_all(void *at)
+{
+    struct crossing *crossing = at;
+    atomic_fetch_add(&crossing_ready, 1);
+    while (atomic_load(&crossing_ready) < 3)
+        sched_yield();
+    for (int left = rounds; left > 0;) {
+        struct limekeel_pressed_written_and_flushed told =
+            limekeel_shared_write_and_flush_within(&crossing->shared, "four", 4);
+        turned(crossing, told.pressure);
+        expect("it is written, or later", told.done.status == LIMEKEEL_OK || told.done.status == LIMEKEEL_BUSY ||
+                                              told.done.status == LIMEKEEL_OVER_BUDGET);
+        expect("within the room", limekeel_budget_look(&crossing->budget).total <= 1000);
+        if (told.done.status == LIMEKEEL_OK)
+            left--;
+        else
+            sched_yield();
+    }
+    return NULL;
+}
+
+static void *takes_for_all(void *at)
+{
+    struct crossing *crossing = at;
+    atomic_fetch_add(&crossing_ready, 1);
+    for (int left = 2 * rounds; left > 0;) {
+        struct limekeel_removed removed = limekeel_transport_remove(&sends_for_all);
+        left -= removed.status == LIMEKEEL_OK && removed.any;
+        struct limekeel_pressed_done gave_back = limekeel_transport_settle(&sends_for_all);
+        turned(crossing, gave_back.pressure);
+        if (!removed.any)
+            sched_yield();
+    }
+    return NULL;
+}
+
+static void crosses(void)
+{
+    struct limekeel_budget budget = budget_of(1000, 200, 800, 0);
+    struct crossing all[3] = {0};
+    pthread_t threads[3];
+    expect("it opens", limekeel_shared_open_within(&sends_for_all, 5000, 9000, OVERHEAD, 8, &budget) == LIMEKEEL_OK);
+    for (int at = 0; at < 3; at++) {
+        expect("a handle", limekeel_transport_another(&sends_for_all, &all[at].shared) == LIMEKEEL_OK);
+        expect("of the budget too", limekeel_budget_share(&budget, &all[at].budget) == LIMEKEEL_OK);
+    }
+    alarm(120);
+    for (int at = 0; at < 3; at++)
+        expect("a thread", pthread_create(&threads[at], NULL, at < 2 ? writes_for_all : takes_for_all, &all[at]) == 0);
+    uint64_t began = 0, ended = 0;
+    for (int at = 0; at < 3; at++) {
+        expect("it ends", pthread_join(threads[at], NULL) == 0);
+        began += all[at].began;
+        ended += all[at].ended;
+    }
+    alarm(0);
+    struct limekeel_pressed_done last = limekeel_transport_rest(&sends_for_all);
+    ended += last.pressure == LIMEKEEL_PRESSURE_ENDED;
+    expect("each turn is told once", last.status == LIMEKEEL_OK && began == ended && holds(&budget, 0));
+    for (int at = 0; at < 3; at++)
+        expect("it goes", limekeel_shared_free(&all[at].shared) == LIMEKEEL_OK &&
+                              limekeel_budget_free(&all[at].budget) == LIMEKEEL_OK);
+    expect("and the last", limekeel_transport_free(&sends_for_all) == LIMEKEEL_OK && limekeel_budget_free(&budget) == LIMEKEEL_OK);
+}
+
 int main(int count, char **words)
 {
     if (count > 1)
@@ -321,6 +452,8 @@ int main(int count, char **words)
     is_a_connection();
     sends();
     is_shared();
+    shares_a_connection();
+    crosses();
     puts("a budget: pressure once each way, no more than the room, four threads");
     return 0;
 }

@@ -13,3 +13,4 @@ pub mod Steps
 pub mod Taking
 pub mod Testing
 pub mod Trying
+pub mod Within

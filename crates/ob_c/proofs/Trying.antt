@@ -1,5 +1,5 @@
 -- What C is told of a call for which the lock was tried.
-use Rattle.std.proofs.Common.{◌≡◌, ℕ, ◌∙◌, ap, refl, sym, subst, Option, Some, None, Result, Ok, Err, List, ◌||◌, true, false, Bool}
+use Rattle.std.proofs.Common.{◌≡◌, ℕ, ◌∙◌, ap, refl, sym, subst, Option, Some, None, Result, Ok, List, ◌||◌, true, false, Bool}
 use Rattle.std.specs.List.{list_all}
 use Rattle.ob_types.specs.declared.command.Command.{Command}
 use Rattle.ob_types.specs.declared.message.Message.{Message}

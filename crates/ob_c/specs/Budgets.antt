@@ -1,5 +1,5 @@
 -- What an export promises of a budget, and of a connection that it covers.
-use Rattle.std.specs.Prelude.{◌≡◌, ◌≤◌, ◌<◌, ◌+◌, ◌/◌, ℕ, ⊤, Bool, true, false, List, [], Option, Some, None, option_map, Result, Ok, Err, IfOk, IfErr}
+use Rattle.std.specs.Prelude.{◌≡◌, ◌<◌, ◌+◌, ◌/◌, ℕ, ⊤, Bool, true, false, List, [], Option, Some, None, option_map, Result, Ok, Err, IfOk, IfErr}
 use Rattle.ob_types.specs.PendingSize.{counted_bytes}
 use Rattle.ob_types.specs.Refusal.{number_of}
 use Rattle.ob_types.specs.WaterMark.{Marks}

@@ -13,3 +13,4 @@ pub mod Reaching
 pub mod Replies
 pub mod Shared
 pub mod Sharing
+pub mod Within

@@ -34,5 +34,6 @@ mod shares;
 mod told;
 mod transport;
 mod tries;
+mod tries_within;
 mod views;
 mod writes;

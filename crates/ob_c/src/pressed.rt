@@ -6,7 +6,7 @@ ghost use Rattle.ob_c.specs.Budgets.{pressed_cancelled_in_c, pressed_changed_in_
 ghost use Rattle.ob_c.specs.Budgets.{pressed_removed_in_c, pressed_taken_in_c, pressed_written_in_c};
 
 use crate::numbers::{BUSY, DONE, NOT_OPEN, OVER_BUDGET, accepted, status_of};
-use crate::replies::{Cancelled, Changed, Flushed, Removed, Taken, Written};
+use crate::replies::{Cancelled, Changed, Flushed, Removed, Taken, Written, WrittenAndFlushed};
 use ob_budget::{Pressure, RaiseFault};
 use ob_covered::{Told, WriteFault};
 use ob_types::{Change, Refusal};
@@ -118,6 +118,16 @@ impl PressedWritten {
             pressure,
         }
     }
+}
+
+/// What a write with the flush behind it returns.
+#[repr(C)]
+#[derive(Clone, Copy)]
+pub struct PressedWrittenAndFlushed {
+    /// The reply.
+    pub done: WrittenAndFlushed,
+    /// How pressure at the budget changed by this call.
+    pub pressure: u32,
 }
 
 /// What a flush returns.

@@ -8,7 +8,10 @@ ghost use Rattle.ob_shared_connection.specs.Values.{HandleValue};
 
 use crate::loose::Loose;
 use crate::numbers::{BUSY, NOT_OPEN, accepted};
+use crate::puts::let_go;
 use crate::tries::wake_nobody;
+use ob_budget::{Pressure, RaiseFault};
+use ob_covered::Told;
 use ob_shared_connection::{Act, Ask, Handle, WriteFault};
 use ob_types::Refusal;
 use std::alloc::Global;
@@ -33,8 +36,10 @@ unsafe impl Send for Shared {}
 impl Shared {
     ghost use Rattle.ob_shared_connection.specs.Calls.{IsCall};
     ghost use Rattle.ob_shared_connection.specs.Removals.{MayGive};
+    ghost use Rattle.ob_shared_connection.specs.Covering.{Settles};
     ghost use Rattle.ob_c.specs.Reaching.{LendsShared};
     ghost use Rattle.ob_c.specs.Sharing.{Tries, TriesTo, TriesToLook};
+    ghost use Rattle.ob_c.specs.Within.{DoesWithin};
 
     /// Takes the handle out, if there is one.
     pub(crate) fn handle(&mut self, alloc: Global) -> Option<Box<Handle>>
@@ -105,6 +110,58 @@ impl Shared {
             Ok((answer, wakes)) => {
                 wake_nobody(wakes);
                 Ok(answer)
+            }
+        }
+    }
+
+    /// Makes a write within a budget, if there is a handle and the lock is free.
+    pub(crate) fn make_within<A: Act<Fault = WriteFault> + Drop>(
+        &mut self,
+        act: A,
+    ) -> Result<Told<Result<Result<A::Answer, WriteFault>, RaiseFault>>, u32>
+        requires { MayGive false (A.commands act) }
+        ensures { TriesTo self.old.value (DoesWithin (A.does act) (A.commands act)) (λ told. told) result self.new.value }
+    {
+        if !self.is_open() {
+            return Err(NOT_OPEN);
+        }
+        match self.reach().try_act_within(act) {
+            Err(_act) => Err(BUSY),
+            Ok((told, wakes)) => {
+                wake_nobody(wakes);
+                Ok(let_go(told))
+            }
+        }
+    }
+
+    /// Has the seat give back what is spare, if there is a handle and the lock is free.
+    pub(crate) fn settle(&mut self) -> Result<Option<Pressure>, u32>
+        ensures { TriesTo self.old.value (Settles 2) (λ told. told) result self.new.value }
+    {
+        if !self.is_open() {
+            return Err(NOT_OPEN);
+        }
+        match self.reach().try_settle() {
+            None => Err(BUSY),
+            Some((pressure, wakes)) => {
+                wake_nobody(wakes);
+                Ok(pressure)
+            }
+        }
+    }
+
+    /// Has the seat give back all above what is pending, if there is a handle and the lock is free.
+    pub(crate) fn rest(&mut self) -> Result<Option<Pressure>, u32>
+        ensures { TriesTo self.old.value (Settles 0) (λ told. told) result self.new.value }
+    {
+        if !self.is_open() {
+            return Err(NOT_OPEN);
+        }
+        match self.reach().try_rest() {
+            None => Err(BUSY),
+            Some((pressure, wakes)) => {
+                wake_nobody(wakes);
+                Ok(pressure)
             }
         }
     }

@@ -8,7 +8,7 @@ ghost use Rattle.ob_c.specs.Sharing.{KeepsAnother, MakesAnother, OpensShared};
 use crate::numbers::{ALREADY_OPEN, BAD_ESTIMATE, DONE, EDGE, NO_MEMORY, NOT_OPEN, OTHER_VERSION};
 use crate::shared::Shared;
 use crate::transport::Transport;
-use ob_shared_connection::{Handle, TooManyHandles};
+use ob_shared_connection::{Ended, Handle, TooManyHandles};
 use ob_types::{Estimate, WaterMark};
 use std::alloc::Global;
 
@@ -94,7 +94,7 @@ pub extern "C" fn limekeel_shared_another(
     keep_another(alloc, shared.reach().another(), second)
 }
 
-/// Lets a handle go, and with the last one of a connection all that it holds.
+/// Lets a handle go, and with the last one of a connection all that it holds, of a budget too.
 ///
 /// The status is 13 if it held none.
 #[unsafe(no_mangle)]
@@ -103,11 +103,14 @@ pub extern "C" fn limekeel_shared_free(alloc: Global, shared: &mut Shared) -> u3
 {
     match shared.handle(alloc) {
         None => NOT_OPEN,
-        Some(_) => DONE,
+        Some(handle) => {
+            end(Box::into_inner(handle));
+            DONE
+        }
     }
 }
 
-/// Lets the handle that sends go, and with the last handle of a connection all that it holds.
+/// Lets the handle that sends go, and with the last handle of a connection all that it holds, of a budget too.
 ///
 /// The status is 13 if it held none.
 #[unsafe(no_mangle)]
@@ -116,7 +119,27 @@ pub extern "C" fn limekeel_transport_free(alloc: Global, transport: &mut Transpo
 {
     match transport.sender(alloc) {
         None => NOT_OPEN,
-        Some(_) => DONE,
+        Some(sender) => {
+            end(Box::into_inner(sender).retire());
+            DONE
+        }
+    }
+}
+
+/// Lets a handle go. The last one of a connection within a budget gives back what that held: nobody is told the turn of
+/// pressure, so who wants to know it rests before.
+fn end(handle: Handle) {
+    let Ok(ended) = handle.finish() else {
+        return;
+    };
+    let Ended {
+        connection: _,
+        cover,
+        handles: _,
+        is_left: _,
+    } = ended;
+    if let Some(mut cover) = cover {
+        let _turn = cover.keep(0);
     }
 }
 

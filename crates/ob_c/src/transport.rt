@@ -9,6 +9,7 @@ ghost use Rattle.ob_shared_connection.specs.Values.{HandleValue};
 use crate::loose::Loose;
 use crate::numbers::{BUSY, NOT_OPEN, accepted};
 use crate::tries::wake_nobody;
+use ob_budget::Pressure;
 use ob_shared_connection::{Act, Ask};
 use ob_types::Refusal;
 use std::alloc::Global;
@@ -32,8 +33,9 @@ unsafe impl Send for Transport {}
 
 impl Transport {
     ghost use Rattle.ob_shared_connection.specs.Calls.{IsCall};
+    ghost use Rattle.ob_shared_connection.specs.Covering.{Settles};
     ghost use Rattle.ob_c.specs.Reaching.{LendsTransport};
-    ghost use Rattle.ob_c.specs.Sharing.{Tries, TriesToLook};
+    ghost use Rattle.ob_c.specs.Sharing.{Tries, TriesTo, TriesToLook};
 
     /// Takes the handle out, if there is one.
     pub(crate) fn sender(&mut self, alloc: Global) -> Option<Box<ob_shared_connection::Transport>>
@@ -82,6 +84,38 @@ impl Transport {
             Ok((answer, wakes)) => {
                 wake_nobody(wakes);
                 accepted(Some(answer))
+            }
+        }
+    }
+
+    /// Has the seat give back what is spare, if there is a handle and the lock is free.
+    pub(crate) fn settle(&mut self) -> Result<Option<Pressure>, u32>
+        ensures { TriesTo self.old.value (Settles 2) (λ told. told) result self.new.value }
+    {
+        if !self.is_open() {
+            return Err(NOT_OPEN);
+        }
+        match self.reach().try_settle() {
+            None => Err(BUSY),
+            Some((pressure, wakes)) => {
+                wake_nobody(wakes);
+                Ok(pressure)
+            }
+        }
+    }
+
+    /// Has the seat give back all above what is pending, if there is a handle and the lock is free.
+    pub(crate) fn rest(&mut self) -> Result<Option<Pressure>, u32>
+        ensures { TriesTo self.old.value (Settles 0) (λ told. told) result self.new.value }
+    {
+        if !self.is_open() {
+            return Err(NOT_OPEN);
+        }
+        match self.reach().try_rest() {
+            None => Err(BUSY),
+            Some((pressure, wakes)) => {
+                wake_nobody(wakes);
+                Ok(pressure)
             }
         }
     }

@@ -28,7 +28,7 @@ use ob_types::{Cause, Message, WaterMark};
 use std::alloc::Global;
 
 /// How many bytes are copied under the lock: as many as share memory with other messages.
-const FEW_BYTES: usize = 2048;
+pub(crate) const FEW_BYTES: usize = 2048;
 
 /// What is seen without the lock.
 #[repr(C)]
@@ -248,7 +248,7 @@ pub extern "C" fn limekeel_shared_glance(shared: &mut Shared) -> Glance
 }
 
 /// A message of a copy of these bytes.
-fn copied(alloc: Global, bytes: &[u8]) -> Result<Message, u32>
+pub(crate) fn copied(alloc: Global, bytes: &[u8]) -> Result<Message, u32>
     ensures copy { IfOk result (λ message. message ≡ AsBlock bytes.now) }
     ensures no_memory { IfErr result (λ status. status ≡ no_memory) }
 {
@@ -259,7 +259,7 @@ fn copied(alloc: Global, bytes: &[u8]) -> Result<Message, u32>
 }
 
 /// A message that shares the bytes of a block.
-fn bytes_of(block: &mut Block) -> Result<Message, u32>
+pub(crate) fn bytes_of(block: &mut Block) -> Result<Message, u32>
     ensures message { MessageOf block.old.value result }
     ensures block { block.new.value ≡ block.old.value }
 {

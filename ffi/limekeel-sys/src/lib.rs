@@ -23,7 +23,7 @@ mod heap;
 pub const PIECES: usize = 1024;
 
 /// A number of these declarations, which `limekeel_open_for` compares with the archive's.
-pub const EDGE: u32 = 3281395174;
+pub const EDGE: u32 = 4237248169;
 
 macro_rules! numbers {
     ($($name:ident = $number:literal),* $(,)?) => {
@@ -184,6 +184,7 @@ plain! {
     PressedDone 8 { status at 0: u32, pressure at 4: u32 }
     /// `struct limekeel_pressed_written`.
     PressedWritten 24 { written at 0: Written, pressure at 16: u32 }
+    PressedWrittenAndFlushed 40 { done at 0: WrittenAndFlushed, pressure at 32: u32 }
     /// `struct limekeel_pressed_flushed`.
     PressedFlushed 24 { flushed at 0: Flushed, pressure at 16: u32 }
     /// `struct limekeel_pressed_removed`.
@@ -389,6 +390,37 @@ unsafe extern "C" {
     pub fn limekeel_shared_write_region(shared: *mut Shared, length: u64) -> Written;
     pub fn limekeel_shared_write_other(shared: *mut Shared, value: u32) -> Written;
     pub fn limekeel_shared_write_lent_bytes(shared: *mut Shared, bytes: *const u8, length: usize) -> Written;
+    pub fn limekeel_shared_open_within_for(
+        transport: *mut Transport,
+        edge: u32,
+        low: u32,
+        high: u32,
+        overhead: u32,
+        unknown: u32,
+        budget: *mut Budget,
+    ) -> u32;
+    pub fn limekeel_shared_write_bytes_within(shared: *mut Shared, bytes: *const u8, length: usize) -> PressedWritten;
+    pub fn limekeel_shared_write_block_within(shared: *mut Shared, block: *const Block) -> PressedWritten;
+    pub fn limekeel_shared_write_and_flush_bytes_within(
+        shared: *mut Shared,
+        bytes: *const u8,
+        length: usize,
+    ) -> PressedWrittenAndFlushed;
+    pub fn limekeel_shared_write_and_flush_block_within(
+        shared: *mut Shared,
+        block: *const Block,
+    ) -> PressedWrittenAndFlushed;
+    pub fn limekeel_shared_write_lent_bytes_within(
+        shared: *mut Shared,
+        bytes: *const u8,
+        length: usize,
+    ) -> PressedWritten;
+    pub fn limekeel_shared_write_region_within(shared: *mut Shared, length: u64) -> PressedWritten;
+    pub fn limekeel_shared_write_other_within(shared: *mut Shared, value: u32) -> PressedWritten;
+    pub fn limekeel_shared_settle(shared: *mut Shared) -> PressedDone;
+    pub fn limekeel_transport_settle(transport: *mut Transport) -> PressedDone;
+    pub fn limekeel_shared_rest(shared: *mut Shared) -> PressedDone;
+    pub fn limekeel_transport_rest(transport: *mut Transport) -> PressedDone;
     pub fn limekeel_shared_flush(shared: *mut Shared) -> Flushed;
     pub fn limekeel_shared_cancel(shared: *mut Shared, id: u64) -> Cancelled;
     pub fn limekeel_shared_close(shared: *mut Shared, cause: u32) -> Taken;

@@ -4,6 +4,7 @@ use crate::block::Block;
 use crate::budget_raw::{Budgeted, Handle};
 use crate::calm::{Calm, Waiters};
 use crate::connection::{Estimate, Marks};
+use crate::handles::Sender;
 use crate::lends::{Made, Owned};
 use crate::promises::{Cancelled, Node};
 use crate::raw::{Gather, Pieces};
@@ -168,8 +169,13 @@ impl Budget {
         Calm::new(self.clone())
     }
 
-    pub(crate) fn waiters(&self) -> &Waiters {
+    pub(crate) fn waiters(&self) -> &Arc<Waiters> {
         &self.waiters
+    }
+
+    /// A connection within it that threads share.
+    pub(crate) fn open_shared(&self, marks: Marks, estimate: Estimate) -> Result<Sender, Refusal> {
+        Sender::open_within(&mut lock(&self.handle), marks, estimate)
     }
 
     fn of(handle: Handle, waiters: Arc<Waiters>) -> Budget {

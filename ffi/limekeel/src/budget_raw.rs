@@ -38,6 +38,11 @@ impl Handle {
         Ok(second)
     }
 
+    /// What opens a connection within the budget.
+    pub(crate) fn inner(&mut self) -> &mut sys::Budget {
+        &mut self.inner
+    }
+
     commands! {
         look() -> sys::BudgetTold = limekeel_budget_look;
         free() -> u32 = limekeel_budget_free;

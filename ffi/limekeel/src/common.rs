@@ -1,10 +1,12 @@
+use crate::calm::Waiters;
 use crate::handles::{Sender, Sharer};
 use crate::lent::{Kept, Lent, Owner};
 use crate::promises::{Node, Promises};
 use crate::replies::{Refusal, Taken, Written, done};
 use crate::waits::{Bell, Line, lock, look_for};
-use std::sync::Mutex;
+use limekeel_sys as sys;
 use std::sync::atomic::{AtomicBool, AtomicUsize, Ordering};
+use std::sync::{Arc, Mutex};
 use std::time::Duration;
 
 /// What all that have a shared connection have in common, beside what the archive keeps.
@@ -24,6 +26,19 @@ pub(crate) struct Common {
     closed: AtomicBool,
     // dropped last: the archive's messages are gone by then
     books: Mutex<Books>,
+    /// What the connection is within, if it is within a budget. It is dropped behind the archive's connection.
+    covered: Option<Covered>,
+}
+
+/// Who waits for the end of pressure at the budget of a connection.
+#[derive(Debug)]
+struct Covered(Arc<Waiters>);
+
+impl Drop for Covered {
+    /// The connection gave back what it held, and who waits looks whether that ended pressure.
+    fn drop(&mut self) {
+        self.0.ring();
+    }
 }
 
 /// What a `Transport` needs: the handle that sends, and one for what that has no call for, which is not counted as a writer.
@@ -64,7 +79,7 @@ pub(crate) fn look_for_a_while(came: impl FnMut() -> bool) {
 
 impl Common {
     /// Of a connection that is open, before anyone has it.
-    pub(crate) fn new() -> Common {
+    pub(crate) fn new(waiters: Option<&Arc<Waiters>>) -> Common {
         Common {
             line: Line::default(),
             writers: Bell::default(),
@@ -73,6 +88,65 @@ impl Common {
             sharers: AtomicUsize::new(0),
             closed: AtomicBool::new(false),
             books: Mutex::default(),
+            covered: waiters.map(|waiters| Covered(Arc::clone(waiters))),
+        }
+    }
+
+    /// Whether it is within a budget.
+    pub(crate) fn is_covered(&self) -> bool {
+        self.covered.is_some()
+    }
+
+    /// A write, by the second call if the connection is within a budget.
+    #[inline]
+    pub(crate) fn write(
+        &self,
+        call: impl FnMut() -> Option<sys::Written>,
+        within: impl FnMut() -> Option<sys::PressedWritten>,
+    ) -> sys::Written {
+        let Some(Covered(waiters)) = &self.covered else {
+            return self.line.had(call);
+        };
+        let told = self.line.had(within);
+        let _ = waiters.turned(told.pressure);
+        told.written
+    }
+
+    /// The same with the flush behind it.
+    #[inline]
+    pub(crate) fn write_and_flush(
+        &self,
+        call: impl FnMut() -> Option<sys::WrittenAndFlushed>,
+        within: impl FnMut() -> Option<sys::PressedWrittenAndFlushed>,
+    ) -> sys::WrittenAndFlushed {
+        let Some(Covered(waiters)) = &self.covered else {
+            return self.line.had(call);
+        };
+        let told = self.line.had(within);
+        let _ = waiters.turned(told.pressure);
+        told.done
+    }
+
+    /// Has the seat give back what is spare, after messages are gone.
+    #[inline]
+    pub(crate) fn settle(&self, sharer: &Sharer) {
+        if self.is_covered() {
+            self.gives(|| sharer.settle());
+        }
+    }
+
+    /// Has the seat give back all above what is pending.
+    pub(crate) fn rest(&self, sharer: &Sharer) {
+        if self.is_covered() {
+            self.gives(|| sharer.rest());
+        }
+    }
+
+    #[cold]
+    fn gives(&self, call: impl FnMut() -> Option<sys::PressedDone>) {
+        let told = self.line.had(call);
+        if let Some(Covered(waiters)) = &self.covered {
+            let _ = waiters.turned(told.pressure);
         }
     }
 
@@ -126,7 +200,7 @@ impl Common {
         }
         // SAFETY: the owner is kept under the promise of the message, before anyone can tell that as gone: who does takes the
         // books after that. What is kept is let go then, or behind the archive's connection at the end.
-        let told = self.line.had(|| unsafe { sharer.write_lent(bytes) });
+        let told = self.write(|| unsafe { sharer.write_lent(bytes) }, || unsafe { sharer.write_lent_within(bytes) });
         match done(told.status) {
             Ok(()) => {
                 books.lent.keep(told.id, owner.of_any_type());

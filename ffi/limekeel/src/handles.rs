@@ -99,6 +99,64 @@ impl Sharer {
         glance() -> sys::Glance = limekeel_shared_glance;
     }
 
+    tries! {
+        settle() -> sys::PressedDone = limekeel_shared_settle;
+        rest() -> sys::PressedDone = limekeel_shared_rest;
+    }
+
+    pub(crate) fn write_region_within(&self, length: u64) -> Option<sys::PressedWritten> {
+        // SAFETY: as of the others.
+        let told = self.with(|inner| unsafe { sys::limekeel_shared_write_region_within(inner, length) })?;
+        (told.written.status != sys::BUSY).then_some(told)
+    }
+
+    pub(crate) fn write_other_within(&self, value: u32) -> Option<sys::PressedWritten> {
+        // SAFETY: as of the others.
+        let told = self.with(|inner| unsafe { sys::limekeel_shared_write_other_within(inner, value) })?;
+        (told.written.status != sys::BUSY).then_some(told)
+    }
+
+    pub(crate) fn write_within(&self, bytes: &[u8]) -> Option<sys::PressedWritten> {
+        // SAFETY: as of `write`.
+        let told =
+            self.with(|inner| unsafe { sys::limekeel_shared_write_bytes_within(inner, bytes.as_ptr(), bytes.len()) })?;
+        (told.written.status != sys::BUSY).then_some(told)
+    }
+
+    pub(crate) fn write_and_flush_within(&self, bytes: &[u8]) -> Option<sys::PressedWrittenAndFlushed> {
+        // SAFETY: as of `write`.
+        let told = self.with(|inner| unsafe {
+            sys::limekeel_shared_write_and_flush_bytes_within(inner, bytes.as_ptr(), bytes.len())
+        })?;
+        (told.done.status != sys::BUSY).then_some(told)
+    }
+
+    pub(crate) fn write_block_within(&self, block: &Slot) -> Option<sys::PressedWritten> {
+        // SAFETY: as of the others; the block is only read.
+        let told = self.with(|inner| unsafe { sys::limekeel_shared_write_block_within(inner, block.inner()) })?;
+        (told.written.status != sys::BUSY).then_some(told)
+    }
+
+    pub(crate) fn write_block_and_flush_within(&self, block: &Slot) -> Option<sys::PressedWrittenAndFlushed> {
+        // SAFETY: as of the others; the block is only read.
+        let told =
+            self.with(|inner| unsafe { sys::limekeel_shared_write_and_flush_block_within(inner, block.inner()) })?;
+        (told.done.status != sys::BUSY).then_some(told)
+    }
+
+    /// Writes bytes where they lie, within a budget.
+    ///
+    /// # Safety
+    ///
+    /// As of `write_lent`.
+    pub(crate) unsafe fn write_lent_within(&self, bytes: &[u8]) -> Option<sys::PressedWritten> {
+        // SAFETY: as of `write_lent`.
+        let told = self.with(|inner| unsafe {
+            sys::limekeel_shared_write_lent_bytes_within(inner, bytes.as_ptr(), bytes.len())
+        })?;
+        (told.written.status != sys::BUSY).then_some(told)
+    }
+
     pub(crate) fn set_marks(&self, marks: Marks) -> Option<u32> {
         // SAFETY: as of the others.
         let told = self.with(|inner| unsafe { sys::limekeel_shared_set_marks(inner, marks.low, marks.high) })?;
@@ -149,6 +207,12 @@ impl Sharer {
         (told.status != sys::BUSY).then_some(told)
     }
 
+    /// Writes bytes that are there for good, within a budget.
+    pub(crate) fn write_static_within(&self, bytes: &'static [u8]) -> Option<sys::PressedWritten> {
+        // SAFETY: they stay as they are.
+        unsafe { self.write_lent_within(bytes) }
+    }
+
     /// Writes bytes that are there for good.
     #[inline]
     pub(crate) fn write_static(&self, bytes: &'static [u8]) -> Option<sys::Written> {
@@ -195,6 +259,28 @@ impl Sender {
                 marks.high,
                 estimate.overhead,
                 estimate.unknown,
+            )
+        })?;
+        Ok(sender)
+    }
+
+    /// The same within a budget.
+    pub(crate) fn open_within(
+        budget: &mut crate::budget_raw::Handle,
+        marks: Marks,
+        estimate: Estimate,
+    ) -> Result<Sender, Refusal> {
+        let mut sender = Sender::none();
+        // SAFETY: both handles are their values' own, and this one owns nothing yet.
+        done(unsafe {
+            sys::limekeel_shared_open_within_for(
+                &mut sender.inner,
+                sys::EDGE,
+                marks.low,
+                marks.high,
+                estimate.overhead,
+                estimate.unknown,
+                budget.inner(),
             )
         })?;
         Ok(sender)

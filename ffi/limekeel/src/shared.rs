@@ -1,4 +1,6 @@
 use crate::block::Block;
+use crate::budget::Budget;
+use crate::calm::Waiters;
 use crate::common::{Common, Role, look_for_a_while};
 use crate::connection::{Estimate, Marks};
 use crate::handles::{Sender, Sharer};
@@ -106,8 +108,37 @@ impl From<Refusal> for Unwritten {
 impl SharedConnection {
     /// A connection with nothing written, and its transport.
     pub fn open(marks: Marks, estimate: Estimate) -> Result<(SharedConnection, Transport), Refusal> {
-        let mut sender = Sender::open(marks, estimate)?;
-        let common = Arc::new(Common::new());
+        SharedConnection::begin(Sender::open(marks, estimate)?, None)
+    }
+
+    /// A connection with nothing written within this budget, and its transport: at each moment what is pending of it is at most
+    /// what it holds of the budget, so all connections of the budget hold its room at most, whatever threads do.
+    ///
+    /// Each write takes of the budget what it lacks, or the quantum: it is [`Refusal::OverBudget`] if there is no room for that,
+    /// and nothing changed then. What is spare above two quanta goes back once messages are gone, and all that it holds with the
+    /// last clone or transport. No call returns how it changed pressure: ask [`Budget::is_pressed`] before you read, or wait for
+    /// the end ([`Budget::wait_while_pressed`], [`Budget::calm`]), of which whatever call ends it wakes.
+    ///
+    /// ```
+    /// use limekeel::{Bounds, Budget, Estimate, Marks, Refusal, SharedConnection};
+    ///
+    /// let budget = Budget::open(Bounds { room: 1000, low: 200, high: 800 }, 0)?;
+    /// let (slow, mut transport) = SharedConnection::within(&budget, Marks::default(), Estimate::default())?;
+    /// let (fast, _fast) = SharedConnection::within(&budget, Marks::default(), Estimate::default())?;
+    /// let _ = slow.write_and_flush(&[0; 804])?; // counts 900, 96 of them for the message itself
+    /// assert!(budget.is_pressed()); // read less
+    /// assert_eq!(fast.write(&[0; 5]), Err(Refusal::OverBudget));
+    /// let _ = transport.give_up(7)?; // one of them has to go
+    /// assert_eq!(budget.look().total, 0);
+    /// let _ = fast.write(&[0; 5])?;
+    /// # Ok::<(), limekeel::Refusal>(())
+    /// ```
+    pub fn within(budget: &Budget, marks: Marks, estimate: Estimate) -> Result<(SharedConnection, Transport), Refusal> {
+        SharedConnection::begin(budget.open_shared(marks, estimate)?, Some(budget.waiters()))
+    }
+
+    fn begin(mut sender: Sender, waiters: Option<&Arc<Waiters>>) -> Result<(SharedConnection, Transport), Refusal> {
+        let common = Arc::new(Common::new(waiters));
         let connection = SharedConnection::new(sender.another()?, &common);
         let sharer = connection.another()?;
         let transport = Transport::new(Role { sender, sharer, gone: 0 }, &common);
@@ -138,16 +169,18 @@ impl SharedConnection {
         if bytes.len() > FEW_BYTES {
             return self.write_many(bytes);
         }
-        Written::of(self.common.line.had(|| self.sharer.write(bytes)))
+        Written::of(self.common.write(|| self.sharer.write(bytes), || self.sharer.write_within(bytes)))
     }
 
     #[cold]
     fn write_many(&self, bytes: &[u8]) -> Result<Written, Refusal> {
-        match self.common.line.at_once(|| self.sharer.write(bytes)) {
-            Some(told) => Written::of(told),
-            // not copied again at each try
-            None => self.write_block(&Block::new(bytes)?),
+        if !self.common.is_covered() {
+            if let Some(told) = self.common.line.at_once(|| self.sharer.write(bytes)) {
+                return Written::of(told);
+            }
         }
+        // not copied again at each try
+        self.write_block(&Block::new(bytes)?)
     }
 
     /// Writes as [`SharedConnection::write`], and flushes behind it, under one lock (Netty's `writeAndFlush`): no call of another
@@ -168,21 +201,29 @@ impl SharedConnection {
         if bytes.len() > FEW_BYTES {
             return self.write_many_and_flush(bytes);
         }
-        self.flushed_behind(self.common.line.had(|| self.sharer.write_and_flush(bytes)))
+        self.flushed_behind(
+            self.common
+                .write_and_flush(|| self.sharer.write_and_flush(bytes), || self.sharer.write_and_flush_within(bytes)),
+        )
     }
 
     #[cold]
     fn write_many_and_flush(&self, bytes: &[u8]) -> Result<WrittenAndFlushed, Refusal> {
-        match self.common.line.at_once(|| self.sharer.write_and_flush(bytes)) {
-            Some(told) => self.flushed_behind(told),
-            None => self.write_block_and_flush(&Block::new(bytes)?),
+        if !self.common.is_covered() {
+            if let Some(told) = self.common.line.at_once(|| self.sharer.write_and_flush(bytes)) {
+                return self.flushed_behind(told);
+            }
         }
+        self.write_block_and_flush(&Block::new(bytes)?)
     }
 
     /// Writes as [`SharedConnection::write_block`], and flushes behind it, as [`SharedConnection::write_and_flush`].
     #[inline]
     pub fn write_block_and_flush(&self, block: &Block) -> Result<WrittenAndFlushed, Refusal> {
-        self.flushed_behind(self.common.line.had(|| self.sharer.write_block_and_flush(&block.slot)))
+        self.flushed_behind(self.common.write_and_flush(
+            || self.sharer.write_block_and_flush(&block.slot),
+            || self.sharer.write_block_and_flush_within(&block.slot),
+        ))
     }
 
     /// Tells those who wait of the flush behind a write.
@@ -206,12 +247,12 @@ impl SharedConnection {
     /// Writes a region: `length` bytes of something that who has the transport sends, as of a file: [`Transport::current`] tells
     /// it, once it is in front.
     pub fn write_region(&self, length: u64) -> Result<Written, Refusal> {
-        Written::of(self.common.line.had(|| self.sharer.write_region(length)))
+        Written::of(self.common.write(|| self.sharer.write_region(length), || self.sharer.write_region_within(length)))
     }
 
     /// Writes any other message, by a number that means something to the caller alone.
     pub fn write_other(&self, value: u32) -> Result<Written, Refusal> {
-        Written::of(self.common.line.had(|| self.sharer.write_other(value)))
+        Written::of(self.common.write(|| self.sharer.write_other(value), || self.sharer.write_other_within(value)))
     }
 
     /// Waits until the connection is writable, and writes then, as [`SharedConnection::write`]. Threads that found it writable at
@@ -237,13 +278,15 @@ impl SharedConnection {
     /// Writes the bytes of a block, which the message then shares: nothing is copied.
     #[inline]
     pub fn write_block(&self, block: &Block) -> Result<Written, Refusal> {
-        Written::of(self.common.line.had(|| self.sharer.write_block(&block.slot)))
+        Written::of(
+            self.common.write(|| self.sharer.write_block(&block.slot), || self.sharer.write_block_within(&block.slot)),
+        )
     }
 
     /// Writes bytes that are there for good: nothing is copied, and nothing is kept for them.
     #[inline]
     pub fn write_static(&self, bytes: &'static [u8]) -> Result<Written, Refusal> {
-        Written::of(self.common.line.had(|| self.sharer.write_static(bytes)))
+        Written::of(self.common.write(|| self.sharer.write_static(bytes), || self.sharer.write_static_within(bytes)))
     }
 
     /// Writes the bytes of `owner` where they lie, as [`crate::Connection::write_owned`]: nothing is copied. The owner moves into a
@@ -289,6 +332,7 @@ impl SharedConnection {
     pub fn close(&self, cause: u32) -> Result<Taken, Refusal> {
         let taken = Taken::of(self.common.line.had(|| self.sharer.close(cause)))?;
         self.common.closes();
+        self.common.settle(&self.sharer);
         Ok(self.common.settled_by(taken))
     }
 
@@ -307,6 +351,11 @@ impl SharedConnection {
     /// Sets other marks. They change nothing by themselves: the next rise or fall goes by them.
     pub fn set_marks(&self, marks: Marks) -> Result<(), Refusal> {
         done(self.common.line.had(|| self.sharer.set_marks(marks)))
+    }
+
+    /// Of a connection within a budget: gives back all that it holds above what is pending, as before it is idle.
+    pub fn rest(&self) {
+        self.common.rest(&self.sharer);
     }
 
     /// What has become of a promise, or nothing if no write was accepted under it.

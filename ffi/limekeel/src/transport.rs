@@ -135,6 +135,7 @@ impl Transport {
             let id = self.role.gone;
             self.role.gone += 1;
             self.tell(removed.change);
+            self.settle();
             let _ = self.common.settled_by(Taken::one(id));
         }
         removed
@@ -146,6 +147,7 @@ impl Transport {
         let taken = Taken::of(common.line.had(|| role.sender.fail_flushed(cause, notify)))?;
         role.gone = taken.promises.end;
         self.tell(taken.change);
+        self.settle();
         Ok(self.common.settled_by(taken))
     }
 
@@ -154,6 +156,7 @@ impl Transport {
         let Transport { role, common } = self;
         let taken = Taken::of(common.line.had(|| role.sender.give_up(cause)))?;
         common.closes();
+        common.settle(&role.sharer);
         Ok(common.settled_by(taken))
     }
 
@@ -298,7 +301,18 @@ impl Transport {
         let taken = Taken::of(common.line.had_by_sender(|| role.sender.take_sent(n)))?;
         role.gone = taken.promises.end;
         self.tell(taken.change);
+        self.settle();
         Ok(taken)
+    }
+
+    /// Of a connection within a budget: gives back all that it holds above what is pending, as before it is idle.
+    pub fn rest(&mut self) {
+        self.common.rest(&self.role.sharer);
+    }
+
+    /// Gives back what is spare of a budget, after messages are gone.
+    fn settle(&self) {
+        self.common.settle(&self.role.sharer);
     }
 
     /// Wakes the writers if they may go on.
