@@ -35,10 +35,10 @@ mod outbound;
 mod pump;
 mod sink;
 
-pub use limekeel::{Block, Estimate, Marks, Outcome, Refusal};
+pub use limekeel::{Block, Bounds, Budget, BudgetLook, Calm, Estimate, Marks, Outcome, Refusal};
 pub use message::{Message, Static, TryWriteError, WriteError};
 pub use outbound::{Outbound, Receipt};
-pub use pump::{BROKEN, DROPPED, Ended, Pump, split, split_with};
+pub use pump::{BROKEN, DROPPED, Ended, Pump, split, split_with, split_within};
 pub use sink::OutboundSink;
 
 /// The code of `README.md`, which a test compiles and runs.

@@ -132,7 +132,7 @@ impl From<WriteError> for io::Error {
     fn from(error: WriteError) -> io::Error {
         let kind = match error {
             WriteError::Gone => ErrorKind::BrokenPipe,
-            WriteError::Refused(Refusal::NoMemory) => ErrorKind::OutOfMemory,
+            WriteError::Refused(Refusal::NoMemory | Refusal::OverBudget) => ErrorKind::OutOfMemory,
             WriteError::Refused(_) => ErrorKind::InvalidInput,
         };
         io::Error::new(kind, error)

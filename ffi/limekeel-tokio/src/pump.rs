@@ -1,6 +1,6 @@
 use crate::gate::{Event, Gate, Shared, Waiting};
 use crate::outbound::{Open, Outbound};
-use limekeel::{Estimate, Marks, Outcome, Refusal, SharedConnection, Taken, Transport};
+use limekeel::{Budget, Estimate, Marks, Outcome, Refusal, SharedConnection, Taken, Transport};
 use std::io::{self, ErrorKind, IoSlice};
 use std::pin::{Pin, pin};
 use std::sync::{Arc, Mutex};
@@ -19,6 +19,8 @@ pub const BROKEN: u32 = 1;
 /// The cause of [`Outcome::Failed`] if the pump was dropped.
 pub const DROPPED: u32 = 2;
 
+type Pair<S> = Result<(Outbound, Pump<S>), Refusal>;
+
 /// What tasks write with to this stream, and the future that sends it, which the caller spawns.
 ///
 /// # Errors
@@ -34,19 +36,29 @@ pub fn split<S: AsyncWrite + Unpin>(stream: S, marks: Marks) -> Result<(Outbound
 ///
 /// [`Refusal::BadMarks`] if the low mark is 0, under which who waits would wait for ever, or above the high mark, or
 /// the high mark is above 2147483647; [`Refusal::BadEstimate`] if the overhead is above 65535; [`Refusal::NoMemory`].
-pub fn split_with<S>(stream: S, marks: Marks, estimate: Estimate) -> Result<(Outbound, Pump<S>), Refusal>
-where
-    S: AsyncWrite + Unpin,
-{
-    if marks.low == 0 {
-        return Err(Refusal::BadMarks);
-    }
-    let (connection, transport) = SharedConnection::open(marks, estimate)?;
-    let shared = Arc::new(Arc::new(Shared { connection, overhead: estimate.overhead.into(), gate: Mutex::default() }));
+pub fn split_with<S: AsyncWrite + Unpin>(stream: S, marks: Marks, estimate: Estimate) -> Pair<S> {
+    begin(stream, marks.low, estimate.overhead, SharedConnection::open(marks, estimate))
+}
+
+/// The same within a budget, which many connections share: what is pending of all of them is never more than its room.
+///
+/// A write for which the budget has no room is refused by [`Refusal::OverBudget`], and changed nothing: the client can
+/// be given up, or the answer be a smaller one. So that it does not come to that, ask [`Budget::is_pressed`] before you
+/// read from a client, and await [`Budget::calm`]: whichever write, pump or end lowers pressure wakes all who do.
+///
+/// # Errors
+///
+/// Those of [`split_with`].
+pub fn split_within<S: AsyncWrite + Unpin>(stream: S, marks: Marks, estimate: Estimate, budget: &Budget) -> Pair<S> {
+    begin(stream, marks.low, estimate.overhead, SharedConnection::within(budget, marks, estimate))
+}
+
+fn begin<S>(stream: S, low: u32, overhead: u32, opened: Result<(SharedConnection, Transport), Refusal>) -> Pair<S> {
+    let (connection, transport) = if low == 0 { Err(Refusal::BadMarks) } else { opened }?;
+    let shared = Arc::new(Arc::new(Shared { connection, overhead: overhead.into(), gate: Mutex::default() }));
     shared.with(|gate| gate.room = shared.connection.look().before_unwritable.into());
-    let (turn, waiting) = (Waiting::new(&shared), Waiting::new(&shared));
-    let outbound = Outbound { turn, _open: Arc::new(Open(shared)) };
-    Ok((outbound, Pump { stream: Some(stream), transport, waiting, paused: None }))
+    let outbound = Outbound { turn: Waiting::new(&shared), _open: Arc::new(Open(Arc::clone(&shared))) };
+    Ok((outbound, Pump { stream: Some(stream), transport, waiting: Waiting::new(&shared), paused: None }))
 }
 
 /// The future that sends what is written with an [`crate::Outbound`], for the user to spawn. It ends with its stream.
@@ -129,12 +141,10 @@ impl<S: AsyncWrite + Unpin> Pump<S> {
     }
 }
 
-impl<S> Pump<S> {
-    /// Gives up what is left, and returns what that was.
-    fn ends(&mut self, outcome: Outcome) -> Taken {
-        self.waiting.shared.with(|gate| gate.ends(Some(outcome)));
-        self.transport.give_up(BROKEN).expect("it is not closed before this")
-    }
+/// Gives up what is left, and returns what that was.
+fn end<S>(pump: &mut Pump<S>, outcome: Outcome) -> Taken {
+    pump.waiting.shared.with(|gate| gate.ends(Some(outcome)));
+    pump.transport.give_up(BROKEN).expect("it is not closed before this")
 }
 
 /// How many bytes a stream took of these pieces, or of the first if it takes one at a time. What would block is
@@ -165,7 +175,7 @@ impl<S: AsyncWrite + Unpin> Future for Pump<S> {
             let _ = pin!(yield_now()).poll(cx);
         }
         let error = ready!(polled).err();
-        let left = pump.ends(if error.is_none() { Outcome::Success } else { Outcome::Failed(BROKEN) });
+        let left = end(pump, if error.is_none() { Outcome::Success } else { Outcome::Failed(BROKEN) });
         let stream = pump.stream.take().expect(ENDED);
         Poll::Ready(Ended { stream, sent: left.promises.start, lost: left.count, error })
     }
@@ -174,7 +184,7 @@ impl<S: AsyncWrite + Unpin> Future for Pump<S> {
 impl<S> Drop for Pump<S> {
     fn drop(&mut self) {
         if self.stream.is_some() {
-            let _left = self.ends(Outcome::Failed(DROPPED));
+            let _left = end(self, Outcome::Failed(DROPPED));
         }
     }
 }

@@ -6,8 +6,8 @@ use bytes::Bytes;
 use common::{ByHand, Memory, Within};
 use futures_sink::Sink;
 use limekeel_tokio::{
-    BROKEN, Block, DROPPED, Estimate, Marks, Outbound, Outcome, Pump, Refusal, Static, TryWriteError, WriteError,
-    split, split_with,
+    BROKEN, Block, Bounds, Budget, DROPPED, Estimate, Marks, Outbound, Outcome, Pump, Refusal, Static, TryWriteError,
+    WriteError, split, split_with, split_within,
 };
 use std::future::{Future, poll_fn};
 use std::io::{self, ErrorKind, IoSlice};
@@ -231,6 +231,49 @@ fn after_slow_ones_fewer_are_woken_one_by_one() {
         assert_eq!(woken_of(&writers), [1, 1]);
     }
     assert_eq!(one_by_one, [0, 1, 3, 7, 15, 31, 63, 127, 255, 256, 258, 262, 270, 286]);
+}
+
+/// 1000 bytes for all, of which a message takes 96 beside its own.
+fn budget() -> Budget {
+    Budget::open(Bounds { room: 1000, low: 300, high: 700 }, 0).unwrap()
+}
+
+#[test]
+fn all_within_a_budget_hold_its_room_at_most() {
+    let budget = budget();
+    let within = |stream| split_within(stream, Marks::default(), Estimate::default(), &budget).unwrap();
+    let (slow, slow_pump) = within(Memory::new(Within { vectored: true, ..Within::default() }));
+    let (other, other_pump) = within(Memory::default());
+    drop(slow.try_write(&[1; 404]).unwrap());
+    assert!(!budget.is_pressed());
+    drop(other.try_write(&[2; 304]).unwrap());
+    assert!(budget.is_pressed());
+    let mut calm = ByHand::new(budget.calm()).waits();
+    assert_eq!(
+        other.try_write([3; 5].to_vec()).map(drop),
+        Err(TryWriteError::Refused(Refusal::OverBudget, vec![3; 5]))
+    );
+    let mut refused = ByHand::new(other.write([3; 5].to_vec()));
+    assert!(matches!(refused.poll(), Poll::Ready(Err(WriteError::Refused(Refusal::OverBudget)))));
+    assert_eq!((slow.pending(), other.pending(), budget.look().total), (500, 400, 900));
+    // what the slow one's pump sends is room for all, and ends pressure
+    let mut slow_pump = ByHand::new(slow_pump);
+    assert!(slow_pump.poll().is_pending());
+    assert_eq!((calm.woken(), budget.look().total), (0, 400));
+    drop(other.try_write(&[3; 104]).unwrap());
+    drop(other_pump);
+    assert_eq!((calm.woken(), budget.look().total), (1, 0));
+    assert!(calm.poll().is_ready());
+    drop(slow.try_write(&[4; 804]).unwrap());
+    drop((slow, slow_pump));
+    assert_eq!(budget.look().total, 0);
+}
+
+#[test]
+fn marks_are_judged_first() {
+    let budget = budget();
+    let opened = split_within(Memory::default(), Marks { low: 0, high: 1 }, Estimate::default(), &budget);
+    assert_eq!(opened.map(drop).unwrap_err(), Refusal::BadMarks);
 }
 
 /// After slow ones every other sending has all come at once; here it is one that finds some of a chain not woken yet.
