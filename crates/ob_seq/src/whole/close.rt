@@ -24,13 +24,16 @@ impl Whole {
         }
         let settled = self.failures(cause)?;
         let count = self.unflushed_count();
-        self.close_with(cause);
+        self.close_with(cause, settled.as_slice().len());
         Ok(self.reply(Answer::Count(count as u32), settled, self.word()))
     }
 
-    /// Fails the unflushed promises that still wait, takes all entries away, and closes; nothing stands in line.
-    fn close_with(&mut self, cause: Cause)
-        requires { length self.old.line ≡ 0 }
+    /// Fails the unflushed promises that still wait, `settling` of them, takes all entries away, and closes; nothing stands
+    /// in line.
+    fn close_with(&mut self, cause: Cause, settling: usize)
+        requires empty { length self.old.line ≡ 0 }
+        requires settling { settling
+            ≡ length (failures cause (unflushed_id self.old) (drop (unflushed_id self.old) self.old.promises)) }
         ensures { self.new ≡ closed_pending cause self.old }
     {
         push_ended(
@@ -38,6 +41,7 @@ impl Whole {
             &self.contents,
             self.contents.count(),
             Outcome::Failed(cause),
+            settling,
         );
         self.contents.shut();
     }

@@ -1,5 +1,7 @@
 use Rattle.ob_seq.proofs.Words.{◌≤◌, ◌++◌, List, length, length-map, ap, ◌∙◌, arith, pending_entry, Outcome, Pending, Success}
 use Rattle.ob_seq.specs.Steps.Commands.{bytes_removed}
+use Rattle.ob_seq.proofs.Words.{count_by, not, refl, sym, take, front_id, PendingEntry}
+use Rattle.ob_seq.proofs.Inside.EntrySettlements.{count_of_settlements, in_line}
 use Rattle.ob_seq.proofs.Inside.Leaving.{first_in_line}
 use Rattle.ob_seq.proofs.whole.Whole.take_cut.Goals as goal
 
@@ -13,3 +15,12 @@ returns c =
     let pushed = c.push_ended.ensures.list ∙ ap (λ (left : List Outcome). gone ++ left)
     (first_in_line Success cut.whole old.line old.unflushed few) in
     rw pushed (c.take_cut.ensures.taken gone ∙ ap (bytes_removed cut) c.self.view_is)
+
+pub push_ended-requires-clause-settling : goal.push_ended-requires-clause-settling
+push_ended-requires-clause-settling c =
+    let old = c.args.self.now in
+    let count = c.args.cut.whole in
+    c.requires.settling
+    ∙ count_of_settlements Success (front_id old) (take count old.line)
+    ∙ ap (λ (some : List PendingEntry). count_by (λ (entry : PendingEntry). not entry.voided) some)
+    (sym (in_line c.self.inside.gone.list c.self.inside.contents c.self.view_is refl count c.requires.whole))

@@ -2,13 +2,13 @@ use Rattle.ob_seq.proofs.Words.{◌≡◌, ◌<◌, ◌++◌, List, Outcome, ◌
 use Rattle.ob_seq.proofs.Inside.Leaving.{first_end, no_entry, one_more, taken_back_at}
 use Rattle.ob_seq.proofs.whole.take.push_ended.Goals as goal
 
-pub returns-then-to_settle_count-count-clause-list : goal.returns-then-to_settle_count-count-clause-list
-returns-then-to_settle_count-count-clause-list c =
+pub returns-then-settling-count-clause-list : goal.returns-then-settling-count-clause-list
+returns-then-settling-count-clause-list c =
     let held = c.args.contents.now in
     let entries = held.line ++ held.unflushed in
     let same = first_end c.args.outcome c.args.count entries
     (omega (arith, c.requires.some, length-append held.line held.unflushed))
-    (sym c.to_settle_count.ensures ∙ c.if-to_settle_count-count.true) in
+    (sym c.requires.settling ∙ c.if-settling-count.true) in
     c.push_all.ensures.list ∙ ap (λ (left : List Outcome). c.args.gone.now.list ++ left) (sym same)
 
 pub loop-place-preserved : goal.loop-place-preserved
