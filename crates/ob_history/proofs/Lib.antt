@@ -6,6 +6,7 @@ pub mod Histories
 pub mod Lasting
 pub mod Own
 pub mod OwnReceipts
+mod Placing
 pub mod Rooms
 pub mod Settling
 pub mod Told

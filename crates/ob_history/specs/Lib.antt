@@ -6,6 +6,7 @@ pub mod First
 pub mod Glance
 pub mod History
 pub mod Inside
+pub mod Keeping
 pub mod Legal
 pub mod Own
 pub mod Receipt

@@ -7,8 +7,8 @@ ghost use Rattle.ob_types.specs.declared.command.Command.{Command};
 ghost use Rattle.ob_history.specs.Copies.{IsSmall};
 
 use ob_seq::Buffer;
-use ob_types::{Command, Refusal, Reply, Spare};
-use std::alloc::AllocError;
+use ob_types::{Command, Refusal, Reply, Settlements, Spare};
+use std::alloc::{AllocError, Global};
 
 /// Gives a buffer one command. `NoMemory` is no answer: it leaves the buffer as it was.
 pub fn give(buffer: &mut Buffer, command: Command) -> Result<Result<Reply, Refusal>, AllocError>
@@ -50,6 +50,21 @@ pub fn copy_in(answer: &Result<Reply, Refusal>, spare: Spare) -> Result<Reply, R
 {
     match answer {
         Ok(reply) => Ok(reply.copy_in(spare)),
+        Err(refusal) => Err(*refusal),
+    }
+}
+
+/// The same answer, of one that settles no promise. It does not allocate.
+pub fn copy_of_none(alloc: Global, answer: &Result<Reply, Refusal>) -> Result<Reply, Refusal>
+    requires { length (settled_by answer.now) ≡ 0 }
+    ensures { result ≡ answer.now }
+{
+    match answer {
+        Ok(reply) => Ok(Reply {
+            answer: reply.answer,
+            settled: Settlements::new(alloc),
+            change: reply.change,
+        }),
         Err(refusal) => Err(*refusal),
     }
 }

@@ -4,9 +4,10 @@ ghost use Rattle.ob_types.specs.Limits.{inline_settlements};
 ghost use Rattle.ob_seq.specs.Pending.{settled_by};
 ghost use Rattle.ob_history.specs.Receipt.{receipt_of};
 
+use crate::answer;
 use crate::receipt::{Receipt, copied};
 use ob_types::{Command, Refusal, Reply};
-use std::alloc::AllocError;
+use std::alloc::{AllocError, Global};
 
 /// A call of a buffer, as a history keeps it.
 #[derive(Debug, Drop)]
@@ -31,5 +32,19 @@ impl Record {
             → IsOk result }
     {
         copied(self.place, self.caller, &self.command, &self.reply)
+    }
+
+    /// The receipt of a record that settles no promise, with a copy of its command. It does not allocate.
+    pub(crate) fn receipt_with(&self, alloc: Global, told: Command) -> Receipt
+        requires told { told ≡ self.now.command }
+        requires none { length (settled_by self.now.reply) ≡ 0 }
+        ensures { result ≡ receipt_of self.now }
+    {
+        Receipt {
+            place: self.place,
+            caller: self.caller,
+            command: told,
+            reply: answer::copy_of_none(alloc, &self.reply),
+        }
     }
 }

@@ -1,5 +1,7 @@
-ghost use Rattle.std.specs.Prelude.{◌≡◌, OnOk, OnErr};
+ghost use Rattle.std.specs.Prelude.{◌≡◌, ◌<◌, OnOk, OnErr, vec_capacity, vec_len};
 ghost use Rattle.std.specs.Sync.Mutex.{mutex_guard_value};
+ghost use Rattle.ob_history.specs.Call.{next_record};
+ghost use Rattle.ob_history.specs.Keeping.{KeepsReceipt};
 ghost use Rattle.ob_history.specs.Words.{IsBeginning, IsCall, IsRecording, IsReservation, IsBufferOf, AreGivenSince, IsLookAt};
 ghost use Rattle.ob_shared.specs.Share.{one_more, share_after};
 ghost use Rattle.ob_shared.specs.Opened.{IsAsOpened};
@@ -69,6 +71,26 @@ impl<'b, L: Named> Desk<'b, L> {
         ensures { IsLookAt self.now.history result }
     {
         self.locked.look()
+    }
+
+    /// Makes a call, as `call` does, and puts its receipt behind others, in a place that is there for it: for who keeps
+    /// many, since a receipt is large, and so it is made where it stays. Our own.
+    ///
+    /// `HistoryFull` and `NoMemory` come as in `call`, and leave all as it was, the receipts too.
+    // in one piece with its callers, so that the command is not passed through memory
+    #[inline(always)]
+    pub fn keep(&mut self, command: Command, receipts: &mut Vec<Receipt>) -> Result<(), Refusal>
+        requires { vec_len receipts.old < vec_capacity receipts.old }
+        ensures is_recording { IsRecording self.old.history self.old.maker.caller command result self.new.history }
+        ensures kept { KeepsReceipt (next_record self.old.history self.old.maker.caller command)
+            receipts.old.items receipts.new.items result }
+        ensures places { vec_capacity receipts.new ≡ vec_capacity receipts.old }
+        ensures made { OnOk result (self.new.maker ≡ one_more self.old.maker) }
+        ensures none_made { OnErr result (self.new.maker ≡ self.old.maker) }
+    {
+        let locked = &mut *self.locked;
+        let words = self.shared.words();
+        locked.keep(words, &mut self.share, &mut self.owed, command, receipts)
     }
 
     /// The receipts of the records of the desk's caller from a place on, in the order of its calls. So a receipt can be

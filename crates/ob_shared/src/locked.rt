@@ -1,10 +1,12 @@
 ghost use Rattle.std.specs.Prelude.{◌≡◌, ℕ, None, ◌+◌, ◌≤◌, ◌↔◌, [], length, map, Some, IfSome, IsNone, IfOk};
-ghost use Rattle.std.specs.Prelude.{IsErrOf, IsOk, IsOkUnless, OnOk, OnErr};
+ghost use Rattle.std.specs.Prelude.{IsErrOf, IsOk, IsOkUnless, OnOk, OnErr, ◌<◌, vec_capacity, vec_len};
 ghost use Rattle.std.specs.List.{All, Contains};
 ghost use Rattle.ob_types.specs.declared.promise.Outcome.{Outcome};
 ghost use Rattle.ob_types.specs.declared.promise.PromiseState.TheVariants.{Settled};
 ghost use Rattle.ob_seq.specs.Looks.{promise_after};
 ghost use Rattle.ob_history.specs.Words.{accepted_commands, IsBeginning, IsCall, IsRecording, IsReservation, new_history};
+ghost use Rattle.ob_history.specs.Call.{next_record};
+ghost use Rattle.ob_history.specs.Keeping.{KeepsReceipt};
 ghost use Rattle.ob_history.specs.Words.{IsBufferOf, AreGivenSince, receipt_of, IsLookAt, settlements_in};
 ghost use Rattle.ob_shared.specs.Finish.{HandsInAll, StandsIn, first_short, IsForeign, after_meeting};
 ghost use Rattle.ob_shared.specs.Share.{HasNoLooks, LacksShare, made_by, one_more, share_after};
@@ -111,6 +113,43 @@ impl<L: Named> Locked<L> {
         share.count(&mut self.book);
         self.rung.hear(&receipt.reply, owed);
         Ok(receipt)
+    }
+
+    /// The same for who keeps the receipt behind others, in a place that is there for it.
+    #[inline(always)]
+    pub fn keep(
+        &mut self,
+        words: &Words<L>,
+        share: &mut Share<L>,
+        owed: &mut Owed,
+        command: Command,
+        receipts: &mut Vec<Receipt>,
+    ) -> Result<(), Refusal>
+        requires { vec_len receipts.old < vec_capacity receipts.old }
+        ensures is_recording { IsRecording self.old share.old.maker.caller command result self.new }
+        ensures kept { KeepsReceipt (next_record self.old share.old.maker.caller command)
+            receipts.old.items receipts.new.items result }
+        ensures places { vec_capacity receipts.new ≡ vec_capacity receipts.old }
+        ensures made { OnOk result (share.new.maker ≡ one_more share.old.maker) }
+        ensures none_made { OnErr result (share.new.maker ≡ share.old.maker) }
+        ensures sight { share.new.sight ≡ share.old.sight }
+    {
+        // for the proof alone: the records are legal, and at most as many as the limit
+        let _records = self.recorded.records();
+        let Locked {
+            recorded,
+            book,
+            publisher,
+            rung,
+            ..
+        } = self;
+        recorded.keep(share.caller(), command, receipts)?;
+        publisher.publish(words, recorded);
+        share.count(book);
+        if let Some(made) = recorded.records().last() {
+            rung.hear(&made.reply, owed);
+        }
+        Ok(())
     }
 
     /// The same for who wants no receipt: nothing of the record is copied.

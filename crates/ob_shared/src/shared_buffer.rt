@@ -78,6 +78,7 @@ impl<L: Named> SharedBuffer<L> {
     /// tries, ten times; then it naps for 50 microseconds, a hundred times; and then it sleeps until it is woken. It does
     /// not allocate. The lock is never poisoned, and no desk is refused; that it is given in any order, or ever, is not
     /// promised.
+    #[inline(always)]
     pub fn desk<R: Wait>(&self, rt: &R, share: Share<L>) -> Desk<'_, L>
         ensures maker { result.maker ≡ share.maker }
         ensures part { IsBeginning share.sight.seen result.history.records }
@@ -86,28 +87,41 @@ impl<L: Named> SharedBuffer<L> {
         Desk::new(self, self.lock(rt), share)
     }
 
-    /// The lock. Who finds it taken pauses, lets others run, and then naps: whoever has it goes on meanwhile, and wakes nobody. A
-    /// thread that sleeps on the lock itself is handed it in the end, and until that thread is awake nobody has it.
+    /// The lock.
+    // in one piece with its callers, since it is mostly free
+    #[inline(always)]
     fn lock<R: Wait>(&self, rt: &R) -> MutexGuard<'_, Locked<L>> {
+        match self.locked.try_lock() {
+            Some(guard) => guard,
+            None => self.wait_for_lock(rt),
+        }
+    }
+
+    /// The lock, which was found taken. Who waits for it pauses, lets others run, and then naps: whoever has it goes on
+    /// meanwhile, and wakes nobody. A thread that sleeps on the lock itself is handed it in the end, and until that thread
+    /// is awake nobody has it.
+    #[cold]
+    #[inline(never)]
+    fn wait_for_lock<R: Wait>(&self, rt: &R) -> MutexGuard<'_, Locked<L>> {
         for turn in 0..PAUSES {
+            pause(PAUSE << turn.min(3));
             if let Some(guard) = self.locked.try_lock() {
                 return guard;
             }
-            pause(PAUSE << turn.min(3));
         }
         for _ in 0..YIELDS {
+            yield_now();
             if let Some(guard) = self.locked.try_lock() {
                 return guard;
             }
-            yield_now();
         }
         // nobody else has this one, so nothing but time ends a nap
         let parker = Parker::new();
         for _ in 0..NAPS {
+            parker.park_timeout(rt, Duration::from_micros(NAP));
             if let Some(guard) = self.locked.try_lock() {
                 return guard;
             }
-            parker.park_timeout(rt, Duration::from_micros(NAP));
         }
         self.locked.lock(rt)
     }

@@ -1,4 +1,6 @@
-ghost use Rattle.ob_history.specs.Call.{IsCall, IsRecording};
+ghost use Rattle.std.specs.Prelude.{◌≡◌, ◌<◌, vec_capacity, vec_len};
+ghost use Rattle.ob_history.specs.Call.{IsCall, IsRecording, next_record};
+ghost use Rattle.ob_history.specs.Keeping.{KeepsReceipt};
 
 use crate::answer;
 use crate::receipt::Receipt;
@@ -25,6 +27,51 @@ impl Recorded {
         let copies = Copies::new(*self.records.allocator(), &self.buffer, &command)?;
         self.record(caller, command)?;
         Ok(copies.receipt(&self.records[place]))
+    }
+
+    /// Makes a call, as `call` does, and puts its receipt behind others, in a place that is there for it: a receipt is large,
+    /// and so it is made where it stays. Our own.
+    ///
+    /// `HistoryFull` and `NoMemory` come as in `call`, and leave all as it was, the receipts too.
+    // in one piece with its callers, so that the command is not passed through memory
+    #[inline(always)]
+    pub fn keep(
+        &mut self,
+        caller: u32,
+        command: Command,
+        receipts: &mut Vec<Receipt>,
+    ) -> Result<(), Refusal>
+        requires { vec_len receipts.old < vec_capacity receipts.old }
+        ensures is_recording { IsRecording self.old caller command result self.new }
+        ensures kept { KeepsReceipt (next_record self.old caller command) receipts.old.items receipts.new.items result }
+        ensures places { vec_capacity receipts.new ≡ vec_capacity receipts.old }
+    {
+        let place = self.records.len();
+        if place == self.limit as usize || self.buffer.settles(&command) != 0 {
+            return self.keep_call(caller, command, receipts);
+        }
+        let told = command.copy()?;
+        self.record(caller, command)?;
+        let alloc = *self.records.allocator();
+        receipts.push_reserved(self.records[place].receipt_with(alloc, told));
+        Ok(())
+    }
+
+    /// The same, of any command: the receipt is made first, and then moved behind the others.
+    fn keep_call(
+        &mut self,
+        caller: u32,
+        command: Command,
+        receipts: &mut Vec<Receipt>,
+    ) -> Result<(), Refusal>
+        requires { vec_len receipts.old < vec_capacity receipts.old }
+        ensures is_recording { IsRecording self.old caller command result self.new }
+        ensures kept { KeepsReceipt (next_record self.old caller command) receipts.old.items receipts.new.items result }
+        ensures places { vec_capacity receipts.new ≡ vec_capacity receipts.old }
+    {
+        let receipt = self.call(caller, command)?;
+        receipts.push_reserved(receipt);
+        Ok(())
     }
 
     /// Gives the buffer one command and records the call, as `call` does, for who wants no receipt: the record is the

@@ -1,18 +1,14 @@
-use Rattle.std.proofs.Common.{◌≡◌, ◌≢◌, ◌<◌, ℕ, false, get_or, length, Result, Ok, sym, ap, ◌∙◌, arith, rules}
-use Rattle.std.proofs.lemmas.Bool.{ne_eqb}
-use Rattle.std.specs.Vec.{vec_len}
-use Rattle.ob_types.specs.declared.command.Command.{Command}
+use Rattle.std.proofs.Common.{length, Result, Ok, sym, ap, ◌∙◌, arith, rules}
 use Rattle.ob_types.specs.declared.refusal.Refusal.{Refusal}
 use Rattle.ob_seq.specs.Pending.{settled_after, settled_by}
 use Rattle.ob_history.specs.Accepted.{accepted_commands}
-use Rattle.ob_history.specs.Call.{call_answer, history_after, is_full, next_record}
-use Rattle.ob_history.specs.History.{History}
+use Rattle.ob_history.specs.Call.{call_answer, next_record}
 use Rattle.ob_history.specs.Inside.{history_of}
 use Rattle.ob_history.specs.Receipt.{receipt_of}
 use Rattle.ob_history.specs.declared.receipt.Receipt.{Receipt}
 use Rattle.ob_history.specs.declared.record.Record.{Record}
-use Rattle.ob_history.specs.declared.recorded.Recorded.TheInside.{Inside}
-use Rattle.ob_history.proofs.Calls.{answer_with_place, record_at_place}
+use Rattle.ob_history.proofs.Calls.{answer_with_place}
+use Rattle.ob_history.proofs.Placing.{placed}
 use Rattle.ob_history.proofs.recorded.Recorded.call.Goals as goal
 
 -- Named for the must-fail edits that fail here: `search` finds it unasked (CONTRIBUTING.md).
@@ -24,22 +20,6 @@ returns-in_err-copies c = record {
   frugal = search rules;
   refused = search rules;
 }
-
--- the first free place of a history, and what stands there after the call
-record Placed (before after : Inside) (caller : ℕ) (command : Command) (place : ℕ) (other : Record) : Type 0 where
-  pub free : is_full (history_of before) ≡ false
-  pub within : place < vec_len after.records
-  pub found : get_or after.records.items place other ≡ next_record (history_of before) caller command
-
-placed : (before after : Inside) (old new : History) (caller : ℕ) (command : Command) (place : ℕ) (other : Record)
-    → place ≡ vec_len before.records → place ≢ before.limit → history_of before ≡ old → history_of after ≡ new
-    → new ≡ history_after old caller command → Placed before after caller command place other
-placed before after old new caller command place other is_place below was is called =
-    let first = is_place ∙ before.records.ok.0 in
-    let free = ne_eqb _ _ (λ same. below (first ∙ same)) in
-    let then = is ∙ called ∙ ap (λ history. history_after history caller command) (sym was) in
-    let at = record_at_place (history_of before) (history_of after) caller command place other free first then in
-    record { free = free; within = omega (arith, at.0, after.records.ok.0); found = at.1 }
 
 pub index-requires : goal.index-requires
 index-requires c =
