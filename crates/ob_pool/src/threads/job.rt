@@ -11,7 +11,7 @@ use crate::plan::Plan;
 use crate::planning::charge_for;
 use crate::threads::context::Context;
 use crate::threads::heed::heed;
-use ob_history::{Booked, Receipt};
+use ob_history::Receipt;
 use ob_lanes::Lane;
 use ob_shared::{Done, Named, Share};
 use ob_types::{Command, Refusal};
@@ -215,13 +215,10 @@ fn one_call<L: Named, R: Wait>(
     } = so_far;
     let writer = share.caller();
     let mut desk = context.shared.desk(rt, share);
-    let answer = desk.call(command);
+    let answer = desk.keep(command, &mut receipts);
     let share = desk.leave();
     match answer {
-        Ok(receipt) => {
-            receipts.push_reserved(receipt);
-            Ok(SoFar { share, receipts })
-        }
+        Ok(()) => Ok(SoFar { share, receipts }),
         Err(Refusal::NoMemory) => { Err(DriveFault::NoMemory) }
         Err(refusal) => { Err(DriveFault::Refused { writer, refusal }) }
     }
