@@ -1,6 +1,5 @@
 //! What a write adds to what is pending, and whether a seat holds that beside it.
-ghost use Rattle.std.specs.Prelude.{◌≡◌, ◌≤◌, ◌<◌, ◌+◌, ℕ, true, false, List, [], ◌∷◌, length, Some, IfSome, IsSome, None};
-ghost use Rattle.ob_types.specs.Limits.{greatest_pending_size};
+ghost use Rattle.std.specs.Prelude.{◌≡◌, ◌≤◌, ◌<◌, ◌+◌, ℕ, true, false, List, [], ◌∷◌, Some, IsSome};
 ghost use Rattle.ob_types.specs.PendingSize.{counted_bytes};
 ghost use Rattle.ob_types.specs.declared.command.Command.TheVariants.{Write};
 ghost use Rattle.ob_types.specs.declared.message.Message.{Message};
@@ -9,7 +8,7 @@ ghost use Rattle.ob_connection.specs.Obeying.{Accepts, joined};
 ghost use Rattle.ob_covered.specs.Budgeted.{IsPending};
 ghost use Rattle.ob_shared_connection.specs.Covers.{CountsAs, FitsIn};
 
-use ob_connection::Connection;
+use ob_connection::{Connection, length_of_parts};
 use ob_types::{Message, pending_size, pending_size_of_length};
 
 /// The bytes that a message adds which counts as many as a block of *n* bytes, if it is accepted while there is memory;
@@ -53,7 +52,7 @@ pub fn bytes_added_by_parts(connection: &Connection, parts: &[&[u8]]) -> u64
         → result ≡ counted_bytes connection.now.unsent.settings.estimate (Block (joined parts.now)) }
 {
     connection.stands_for_some_commands();
-    match length_of(parts) {
+    match length_of_parts(parts) {
         Some(n) => bytes_added_by(connection, n),
         None => 0,
     }
@@ -107,19 +106,4 @@ pub fn room_lacks_parts(connection: &Connection, parts: &[&[u8]], room: Option<u
         None => false,
         Some(room) => passes(connection, bytes_added_by_parts(connection, parts), room),
     }
-}
-
-/// How many bytes these parts are together, unless no message is so long.
-fn length_of(parts: &[&[u8]]) -> Option<usize>
-    ensures some { IfSome result (λ count. count ≡ length (joined parts.now)) }
-    ensures none { result ≡ None → greatest_pending_size < length (joined parts.now) }
-{
-    let mut count: usize = 0;
-    for part in parts {
-        let Some(more) = count.checked_add(part.len()) else {
-            return None;
-        };
-        count = more;
-    }
-    Some(count)
 }
