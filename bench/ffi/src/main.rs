@@ -1,5 +1,5 @@
 //! Times the cycle (write of 64 bytes, flush, remove) and 16 writes, flush, gather and removal of their bytes, behind messages
-//! that wait: through the crate `limekeel`, by the same rules in plain Rust, and by the barest queue.
+//! that wait: through the crate `limekeel`, also within a budget, by the same rules in plain Rust, and by the barest queue.
 //! Prints lines of a name, a depth and the nanoseconds of a cycle and of a message in a batch.
 //! With the word `threads` it times the threads alone.
 
@@ -11,7 +11,7 @@ mod by_hand;
 mod sending;
 mod threads;
 
-use limekeel::{Block, Connection, Estimate, Marks};
+use limekeel::{Block, Bounds, Budget, BudgetedConnection, Connection, Estimate, Marks};
 use std::collections::VecDeque;
 use std::hint::black_box;
 use std::io::IoSlice;
@@ -80,6 +80,48 @@ impl Shares for Copied {
 
     fn write_shared(&mut self, block: &Block) {
         let _ = self.0.write_block(block).expect("it is accepted");
+    }
+}
+
+/// The same within a budget that has room, from which it takes for some messages at once.
+struct Within(BudgetedConnection);
+
+impl Queue for Within {
+    fn open() -> Self {
+        let bounds = Bounds { room: 1 << 40, low: 1 << 38, high: 1 << 39 };
+        let budget = Budget::open(bounds, 4096).expect("it opens");
+        Within(BudgetedConnection::within(&budget, Marks::default(), Estimate::default()).expect("it opens"))
+    }
+
+    fn write(&mut self) {
+        let _ = self.0.write(&BYTES).answer.expect("it is accepted");
+    }
+
+    fn flush(&mut self) {
+        let _ = self.0.flush().answer.expect("it is open");
+    }
+
+    fn remove(&mut self) {
+        let _ = self.0.remove().answer.expect("it is open");
+    }
+
+    fn send(&mut self) -> usize {
+        let pieces = self.0.pieces::<BATCH>(u32::MAX);
+        let count = black_box(&*pieces).iter().map(|piece| piece.len()).sum();
+        let _ = self.0.take_sent(ALL).answer.expect("they wait");
+        count
+    }
+}
+
+impl Shares for Within {
+    type Block = Block;
+
+    fn block() -> Block {
+        Copied::block()
+    }
+
+    fn write_shared(&mut self, block: &Block) {
+        let _ = self.0.write_block(block).answer.expect("it is accepted");
     }
 }
 
@@ -251,6 +293,8 @@ fn main() {
     }
     time::<Copied>("rust");
     time::<Shared<Copied>>("rust-shared");
+    time::<Within>("rust-within");
+    time::<Shared<Within>>("rust-shared-within");
     time::<ByHand>("by-hand");
     time::<Shared<ByHand>>("by-hand-shared");
     time::<Barest>("barest");
