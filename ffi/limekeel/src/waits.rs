@@ -47,9 +47,9 @@ pub(crate) struct Line {
 #[derive(Debug, Default)]
 struct Tickets {
     /// The next that is given.
-    next: usize,
+    next: u32,
     /// That of the first in line.
-    first: usize,
+    first: u32,
 }
 
 impl Line {
@@ -114,20 +114,25 @@ impl Line {
         // the next says so itself
         self.pressed.store(false, Ordering::Relaxed);
         lock(&self.tickets).first = mine.wrapping_add(1);
-        self.seats[mine.wrapping_add(1) % SEATS].notify_all();
+        self.seat(mine.wrapping_add(1)).notify_all();
         answer
     }
 
     /// Takes a ticket and waits until it is the first.
-    fn stands_first(&self) -> usize {
+    fn stands_first(&self) -> u32 {
         let mut tickets = lock(&self.tickets);
         let mine = tickets.next;
         tickets.next = mine.wrapping_add(1);
         // the number is read under the mutex under which it is written before its seat is woken
         while tickets.first != mine {
-            tickets = self.seats[mine % SEATS].wait(tickets).unwrap_or_else(PoisonError::into_inner);
+            tickets = self.seat(mine).wait(tickets).unwrap_or_else(PoisonError::into_inner);
         }
         mine
+    }
+
+    /// Where who has this ticket waits.
+    fn seat(&self, ticket: u32) -> &Condvar {
+        &self.seats[ticket as usize % SEATS]
     }
 }
 
@@ -262,7 +267,7 @@ mod tests {
 
     #[test]
     fn those_in_line_are_served_in_order() {
-        const THREADS: usize = 40;
+        const THREADS: u32 = 40;
         let (line, taken, order) = (Line::default(), AtomicBool::new(true), Mutex::new(Vec::new()));
         thread::scope(|scope| {
             let _released = Released(&taken);
