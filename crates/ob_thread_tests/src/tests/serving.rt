@@ -3,7 +3,7 @@
 use crate::tests::host::Host;
 use crate::tests::keeping_buffers::Scarce;
 use bytes::Bytes;
-use ob_history::{As, Booked, Recorded};
+use ob_history::{As, Booked, Receipt, Recorded};
 use ob_shared_callers::{send_on, serve};
 use ob_transport::ScriptSink;
 use ob_types::{Command, Estimate, Message, Refusal, WaterMark};
@@ -66,5 +66,37 @@ fn what_the_sink_took_is_booked_and_not_offered_again(rt: HostRuntime) -> Result
         (6, 6, 0, 6, 0)
     );
     drop((booked, sink));
+    Ok(())
+}
+
+/// A history of at most one call, and the receipts that its caller kept: which call each is of.
+fn kept_of_one(alloc: Global) -> Result<(Vec<Receipt>, Result<(), Refusal>), Refusal> {
+    let estimate = Estimate {
+        overhead: 96,
+        unknown: 8,
+    };
+    let mut recorded = Recorded::new(alloc, WaterMark::new(200, 400)?, estimate, 1);
+    let mut receipts = Vec::with_capacity(alloc, 2)?;
+    recorded.keep(7, Command::Flush, &mut receipts)?;
+    let mut full = Ok(());
+    if receipts.len() < receipts.capacity() {
+        full = recorded.keep(7, Command::Flush, &mut receipts);
+    }
+    drop(recorded);
+    Ok((receipts, full))
+}
+
+#[test]
+fn a_receipt_is_kept_of_a_call_and_of_none_that_is_refused(rt: HostRuntime) -> Result<(), Fail> {
+    let (receipts, full) = kept_of_one(rt.alloc())?;
+    let first = receipts
+        .first()
+        .map(|receipt| (receipt.place, receipt.caller));
+    let count = receipts.len();
+    drop(receipts);
+    assert_eq!(rt;
+        (first, count, full),
+        (Some((0, 7)), 1, Err(Refusal::HistoryFull))
+    );
     Ok(())
 }
