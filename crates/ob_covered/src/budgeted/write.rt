@@ -14,6 +14,7 @@ use ob_connection::{Connection, Written};
 use ob_types::{Message, pending_size};
 
 /// Writes to a connection that the budget let through.
+#[inline(always)]
 fn put(connection: &mut Connection, message: Message) -> Result<Written, NotWritten>
     ensures written { IfOk result (λ written. Obeys connection.old (Write message) written_reply (accepted written) connection.new) }
     ensures grown { OnOk result ((before : ℕ) → IsPending connection.old before →
@@ -41,6 +42,7 @@ impl Budgeted {
     /// As `Connection::write`, but `OverBudget` comes after `Closed` and `Oversize`, and before the others and before
     /// anything is allocated, if the seat does not hold the message beside what is pending, and the budget refused what it
     /// lacks. Each refusal leaves the connection as it was, and the message comes back.
+    #[inline(always)]
     pub fn write(&mut self, message: Message) -> Told<Result<Written, NotWritten>>
         ensures written { IfOk result.answer (λ written.
             Obeys self.old.connection (Write message) written_reply (accepted written) self.new.connection) }
