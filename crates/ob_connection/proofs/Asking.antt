@@ -7,8 +7,8 @@ use Rattle.ob_types.specs.declared.command.Command.TheVariants.{Write}
 use Rattle.ob_types.specs.declared.estimate.Estimate.{Estimate}
 use Rattle.ob_types.specs.declared.message.Message.{Message}
 use Rattle.ob_types.specs.declared.message.Message.TheVariants.{Block}
-use Rattle.ob_seq.specs.Steps.Commands.{admitted}
-use Rattle.ob_seq.proofs.Inside.Admitted.{asked, asked_there, first_is}
+use Rattle.ob_seq.specs.Steps.Commands.{admitted, asked}
+use Rattle.ob_seq.proofs.Inside.Admitted.{asked_there, first_is}
 use Rattle.ob_connection.specs.Becoming.{IsFirstRefusal}
 use Rattle.ob_connection.proofs.Kept.{ids_are}
 

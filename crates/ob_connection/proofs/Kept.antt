@@ -24,14 +24,6 @@ pub same_change : {before before' after after' : ℕ} → before ≡ before' →
     change_between before after ≡ change_between before' after'
 same_change before after = cc
 
--- one message more waits after a write
-pub added_waiting : (old new : Unsent) (message : Message) (size : ℕ) →
-    whole [] new ≡ written (whole [] old) message size → waiting_count new ≡ waiting_count old + 1
-added_waiting old new message size is =
-    let same = ap (λ (one : Pending). length one.promises) is in
-    let more = length-append (whole [] old).promises (Waiting ∷ []) in
-    omega (arith, promises_there [] old, promises_there [] new)
-
 -- the promise of the front is that of the first message that waits
 pub front_id_there : {connection : Connected} (past : Past connection) → front_id (held past) ≡ connection.gone
 front_id_there {connection} past = there past.outcomes connection.unsent ∙ past.count

@@ -5,14 +5,9 @@ use Rattle.ob_connection.proofs.Words.{first_of_step, Option, Command, Moves, st
 use Rattle.ob_connection.proofs.Words.{connection_limit, ℕ, ◌+◌, ◌++◌, ◌≤◌, ◌∙◌, arith, length, length-append, map, take, Outcome}
 use Rattle.std.proofs.lemmas.List.{length-map, length-take-le}
 use Rattle.ob_seq.specs.Unsent.{ended}
-use Rattle.ob_seq.proofs.Inside.Made.{makes_refused, makes_taken}
+use Rattle.ob_seq.proofs.Inside.Made.{first_where_open, makes_refused, makes_taken}
 use Rattle.ob_connection.specs.Becoming.{Becomes, IsFirstRefusal}
 use Rattle.ob_connection.specs.Connected.{room_in, roomed}
-
--- what an open connection refuses is what its step refuses
-pub first_where_open : (old : Pending) (step : Step) (value : Option Refusal) → old.closed ≡ false → step.refusal ≡ value →
-    first_of_step old step ≡ value
-first_where_open old step value unclosed is = rw (unclosed, is) refl
 
 -- what waits makes its step, and so does a connection
 module _ {A : Type 0} (step : Pending → Step) (tell : List PromiseState → A → Reply) {inside old : Connected}
@@ -53,7 +48,7 @@ module _ {A : Type 0} (step : Pending → Step) (tell : List PromiseState → A 
       makes = λ past. (
         past,
         makes_refused (held past) (step (held past)) refusal other
-            (first_where_open (held past) (step (held past)) (Some refusal) unclosed (is past)),
+            (first_where_open (held past) (step (held past)) unclosed (is past)),
       );
       refused = refl;
     })

@@ -3,10 +3,14 @@ use Rattle.ob_connection.proofs.Words.{◌≡◌, sym, ap, ◌∙◌, subst, ari
 use Rattle.ob_connection.proofs.Words.{Option, Result, Ok, Err, IsErrOf, Refusal, NoMemory, Reply, Command, PromiseState}
 use Rattle.ob_connection.proofs.Words.{Pending, Step, Makes, answer_by, Past, held, Moves, Connected, told_by, step_within}
 use Rattle.ob_connection.proofs.Words.{connection_limit, Leaves, StandsFor, StandsForSome, Answers, Follows, Obeys, commands_with}
+use Rattle.ob_connection.proofs.Words.{ℕ, Unsent}
 use Rattle.ob_seq.specs.Answer.{are_accepted_within}
+use Rattle.ob_seq.specs.Steps.Within.{StepsWithin}
 use Rattle.ob_connection.specs.Becoming.{IsFirstRefusal}
 use Rattle.ob_connection.specs.Looks.{Refuses}
+use Rattle.ob_connection.specs.declared.connection.Connection.TheInside.{Inside}
 use Rattle.ob_connection.specs.Obeying.{Accepts}
+use Rattle.ob_connection.proofs.Making.{made_within}
 use Rattle.ob_seq.proofs.Simulating.Simulated.{answer_is, goes_on, simulated}
 
 -- a result as the model's is out of memory exactly if it is
@@ -94,6 +98,24 @@ module _ {A : Type 0} (command : Command) {tell : List PromiseState → A → Re
         refused = moves.refused;
         no_memory_last = accepts;
       }
+
+-- what a connection holds, as its fields say it
+pub inner_is : {connected : Connected} {inside : Inside} → record { inner = connected } ≡ inside → connected ≡ inside.inner
+inner_is view = ap (λ (one : Inside). one.inner) view
+
+-- so does one that what waits carries out, and that lets no message go
+module _ (command : Command) {A : Type 0} {tell : List PromiseState → A → Reply} {unsent new : Unsent} {gone : ℕ}
+    {inside : Inside} (view : record { inner = record { unsent = unsent; gone = gone } } ≡ inside) {result : Result A Refusal}
+    (steps : StepsWithin (step_at command) tell unsent result new) (some : StandsForSome inside.inner) where
+  moved : Moves inside.inner command tell result (record { unsent = new; gone = gone })
+  moved = made_within (step_at command) tell (inner_is view) new result (λ past. steps.makes past.outcomes) steps.refused
+
+  pub stays_within : StandsForSome (record { unsent = new; gone = gone })
+  stays_within = stays command moved some
+
+  pub obeys_within : {now : Connected} → inside.inner ≡ now →
+      Obeys now command tell result (record { unsent = new; gone = gone })
+  obeys_within same = rw (← same) (obeys command moved some)
 
 -- the first refusal of a step is that of its command, whatever history the connection stands for
 pub refuses : (command : Command) {now : Connected} {refusal : Option Refusal} → IsFirstRefusal now command refusal →

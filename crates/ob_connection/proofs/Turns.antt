@@ -132,22 +132,7 @@ skipped_twice (suc a) (suc b) now =
     ∙ ap (λ (line : List PendingEntry). record now { line = line }) (changed_again (suc a) (suc b) now.line)
     ∙ sym (skipping (suc a + suc b) now (omega arith))
 
--- where a removal ends that is within what is left
-cut_by : (few : Bool) (one cut : Cut) → (let found : Option Cut = cond few None (Some one) in Some cut ≡ found) →
-    cut ≡ one
-cut_by few one cut some = grind arith
-
-pub cut_found : (n : ℕ) (pieces : List (List ℕ)) (cut : Cut) → Some cut ≡ cut_of n pieces → cut ≡ whole_cut n pieces
-cut_found n pieces cut some = cut_by (ltb (bytes_in pieces) n) (whole_cut n pieces) cut some
-
-none_by : (few : Bool) (one : Cut) → few ≡ false → (let found : Option Cut = cond few None (Some one) in None ≡ found) → ⊥
-none_by few one enough none = grind arith
-
-pub no_cut_left : (n : ℕ) (pieces : List (List ℕ)) → n ≤ bytes_in pieces → None ≡ cut_of n pieces → ⊥
-no_cut_left n pieces within none =
-    let enough : ltb (bytes_in pieces) n ≡ false = grind (arith, nat_tests) in
-    none_by (ltb (bytes_in pieces) n) (whole_cut n pieces) enough none
-
+-- of two numbers one is the greater
 pub order : (m n : ℕ) → (m ≤ n) ⊎ (n < m)
 order zero n = inl (omega arith)
 order (suc m) zero = inr (omega arith)

@@ -21,8 +21,9 @@ use std::marker::Model;
 /// no list of commands.
 #[derive(Debug, Drop)]
 pub struct Inner {
-    contents: Contents,
-    gone: u64,
+    pub contents: Contents,
+    /// How many messages are gone, which is the promise of the first that waits.
+    pub gone: u64,
     /// What copied messages share.
     chunks: Chunks,
 }

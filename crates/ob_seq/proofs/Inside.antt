@@ -8,6 +8,7 @@ pub mod Fields
 pub mod Gathered
 pub mod Held
 pub mod Leaving
+pub mod LetGo
 pub mod Looked
 pub mod Made
 pub mod Rooms

@@ -8,3 +8,4 @@ pub mod Removed
 pub mod Simulated
 pub mod Simulation
 pub mod Written
+pub mod Kept

@@ -51,7 +51,6 @@ pub use Rattle.ob_seq.specs.Looks.{entry_of, PendingEntry, blocks_left, messages
 pub use Rattle.ob_seq.specs.Looks.{promise_after, front_promise_after}
 pub use Rattle.ob_seq.specs.Pending.{Leaves, Pending, StandsFor, settled_along, settled_by, SparesMemory}
 pub use Rattle.ob_seq.specs.Inside.{IsSound, unsent_of, counted, none_taken_back}
-pub use Rattle.ob_seq.specs.Room.{IsRoomy}
 pub use Rattle.ob_seq.specs.Unsent.{pending_entry, pending_entries, unreached_entry, fixed_state, waiting_state, whole}
 pub use Rattle.ob_seq.specs.Unsent.{Unsent, states_of, ended, waiting_count}
 pub use Rattle.ob_seq.specs.Rows.{is_in_line, line, unflushed, front, gone, is_gone, Row, is_cancelled, is_voided}

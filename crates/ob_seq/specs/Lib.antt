@@ -8,7 +8,7 @@ pub mod Inside
 pub mod Mark
 pub mod Outcomes
 pub mod Unsent
-pub mod Room
+pub mod Kept
 pub mod Steps
 pub mod Word
 pub mod Worked

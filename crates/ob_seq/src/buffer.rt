@@ -2,30 +2,39 @@ ghost use Rattle.std.specs.Prelude.{◌≡◌, ◌≤◌, false, [], List, IsTru
 ghost use Rattle.ob_types.specs.Limits.{greatest_overhead, greatest_unknown};
 ghost use Rattle.ob_types.specs.Write.{is_write};
 ghost use Rattle.ob_types.specs.declared.command.Command.{Command};
+ghost use Rattle.ob_seq.specs.Kept.{pending_of, IsKept};
 ghost use Rattle.ob_seq.specs.Pending.{Pending, StandsFor, Obeys, takes_no_memory, SparesMemory};
 
 mod commands;
 mod looks;
+mod settles;
+mod take;
 
-use crate::whole::Whole;
+use crate::contents::Contents;
+use crate::outcomes::Outcomes;
 use ob_types::{Command, Estimate, Refusal, Reply, WaterMark};
 use std::alloc::Global;
 use std::marker::Model;
+
+/// The most writes that a buffer accepts. Our own limit.
+const MAX_WRITES: usize = 1048576;
 
 /// What an application has written to a channel and the transport has not yet sent (Netty's
 /// `ChannelOutboundBuffer`), for one thread.
 #[derive(Debug, Drop)]
 pub struct Buffer {
-    whole: Whole,
+    contents: Contents,
+    /// The outcomes of the messages that are gone, oldest first. A write takes the room for its own.
+    gone: Outcomes,
 }
 
 /// Each buffer holds what some list of accepted commands leaves.
 impl Model for Buffer {
     ghost Value = { Pending };
 
-    ghost view = { λ buffer. buffer.whole };
+    ghost view = { pending_of };
 
-    ghost invariant = { λ buffer. (commands : List Command) × StandsFor buffer.whole commands };
+    ghost invariant = { λ buffer. IsKept buffer.gone buffer.contents };
 }
 
 impl Buffer {
@@ -38,7 +47,8 @@ impl Buffer {
         ensures stands { StandsFor result [] }
     {
         Buffer {
-            whole: Whole::new(alloc, marks, estimate),
+            contents: Contents::new(alloc, marks, estimate),
+            gone: Outcomes::new(alloc),
         }
     }
 
@@ -47,7 +57,7 @@ impl Buffer {
     pub fn stands_for_some_commands(&self)
         ensures { (commands : List Command) × StandsFor self.now commands }
     {
-        let _whole = &self.whole;
+        let _contents = &self.contents;
     }
 
     /// Gives one command: the call of the same name.

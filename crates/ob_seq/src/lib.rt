@@ -8,7 +8,6 @@ mod flushed;
 mod laws;
 mod look;
 mod outcomes;
-mod whole;
 mod worked;
 
 pub use buffer::Buffer;

@@ -42,7 +42,9 @@ impl Connection {
         ensures frugal { ¬ IsErrOf result Refusal.NoMemory }
         ensures room { KeepsRoom self.old self.new }
     {
-        self.inner.flush()
+        let count = self.inner.contents.unflushed_count() as u64;
+        let change = self.inner.contents.flush()?;
+        Ok(Flushed { count, change })
     }
 
     /// Takes the first flushed message away, as sent, as `Buffer::remove` (Netty's `remove()`). It never runs out of
@@ -86,7 +88,7 @@ impl Connection {
         ensures frugal { ¬ IsErrOf result Refusal.NoMemory }
         ensures room { KeepsRoom self.old self.new }
     {
-        self.inner.progress(n)
+        self.inner.contents.progress(n)
     }
 
     /// Takes a promise back, as `Buffer::cancel` (Netty's `Future.cancel`), and returns whether that came in time. It takes
@@ -98,7 +100,7 @@ impl Connection {
         ensures frugal { ¬ IsErrOf result Refusal.NoMemory }
         ensures room { KeepsRoom self.old self.new }
     {
-        self.inner.cancel(id)
+        self.inner.contents.cancel(id, self.inner.gone)
     }
 
     /// Takes all flushed messages away, as failed for this cause, as `Buffer::fail_flushed` (Netty's `failFlushed`), and
@@ -156,7 +158,7 @@ impl Connection {
         ensures frugal { ¬ IsErrOf result Refusal.NoMemory }
         ensures room { KeepsRoom self.old self.new }
     {
-        self.inner.user_bit(index, writable)
+        self.inner.contents.user_bit(index, writable)
     }
 
     /// Sets the marks that are in force from now on, as `Buffer::set_marks`: it moves no bit, so it changes no writability.
@@ -166,6 +168,6 @@ impl Connection {
         ensures frugal { ¬ IsErrOf result Refusal.NoMemory }
         ensures room { KeepsRoom self.old self.new }
     {
-        self.inner.set_marks(marks)
+        self.inner.contents.set_marks(marks)
     }
 }

@@ -12,17 +12,6 @@ use crate::replies::{Flushed, Removed};
 use ob_types::{Change, Outcome, Refusal, WaterMark};
 
 impl Inner {
-    /// The step of `Connection::flush`.
-    pub fn flush(&mut self) -> Result<Flushed, Refusal>
-        ensures moves { Moves self.old Flush flushed_reply result self.new }
-        ensures frugal { ¬ IsErrOf result Refusal.NoMemory }
-        ensures room { KeepsRoom self.old self.new }
-    {
-        let count = self.contents.unflushed_count() as u64;
-        let change = self.contents.flush()?;
-        Ok(Flushed { count, change })
-    }
-
     /// The step of `Connection::remove`, and with a cause as its outcome of `Connection::remove_with`.
     pub fn remove(&mut self, outcome: Outcome) -> Result<Removed, Refusal>
         ensures steps { Steps (removal_step outcome) self.old removed_reply result self.new }
@@ -46,39 +35,4 @@ impl Inner {
         })
     }
 
-    /// The step of `Connection::progress`.
-    pub fn progress(&mut self, n: u64) -> Result<(), Refusal>
-        ensures moves { Moves self.old (Progress n) done_reply result self.new }
-        ensures frugal { ¬ IsErrOf result Refusal.NoMemory }
-        ensures room { KeepsRoom self.old self.new }
-    {
-        self.contents.progress(n)
-    }
-
-    /// The step of `Connection::user_bit`.
-    pub fn user_bit(&mut self, index: u32, writable: bool) -> Result<Option<Change>, Refusal>
-        ensures moves { Moves self.old (UserBit index writable) bit_reply result self.new }
-        ensures frugal { ¬ IsErrOf result Refusal.NoMemory }
-        ensures room { KeepsRoom self.old self.new }
-    {
-        self.contents.user_bit(index, writable)
-    }
-
-    /// The step of `Connection::set_marks`.
-    pub fn set_marks(&mut self, marks: WaterMark) -> Result<(), Refusal>
-        ensures moves { Moves self.old (SetMarks marks) done_reply result self.new }
-        ensures frugal { ¬ IsErrOf result Refusal.NoMemory }
-        ensures room { KeepsRoom self.old self.new }
-    {
-        self.contents.set_marks(marks)
-    }
-
-    /// The step of `Connection::cancel`.
-    pub fn cancel(&mut self, id: u64) -> Result<bool, Refusal>
-        ensures moves { Moves self.old (Cancel (record { 0 = id })) (cancelled_reply id) result self.new }
-        ensures frugal { ¬ IsErrOf result Refusal.NoMemory }
-        ensures room { KeepsRoom self.old self.new }
-    {
-        self.contents.cancel(id, self.gone)
-    }
 }

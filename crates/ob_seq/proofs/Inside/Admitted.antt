@@ -9,7 +9,7 @@ use Rattle.ob_types.specs.declared.reply.Answer.TheVariants.{Id}
 use Rattle.ob_types.specs.declared.reply.Change.{Change}
 use Rattle.ob_seq.specs.Answer.{is_full}
 use Rattle.ob_seq.specs.Steps.Step.{Makes, first_of_step}
-use Rattle.ob_seq.specs.Steps.Commands.{admitted, has_bytes_left, write_step_within, written}
+use Rattle.ob_seq.specs.Steps.Commands.{admitted, asked, has_bytes_left, write_step_within, written}
 use Rattle.ob_seq.proofs.Inside.Made.{makes_refused, makes_taken, makes_wanting}
 
 -- a size that is there, or is refused otherwise, is never refused for want of memory
@@ -27,34 +27,31 @@ whatever_gone limit writes (Ok size) gone unsent = refl
 whatever_gone limit writes (Err refusal) gone unsent = refl
 
 module _ (limit : Option ℕ) (message : Message) (old : Pending) where
-  abbrev pub asked : Result ℕ Refusal
-  asked = admitted limit (length old.promises) (pending_size_of old.settings.estimate message) old
-
-  -- what was asked of what waits, whatever is gone
+  -- what was asked limit message old of what waits, whatever is gone
   pub asked_there : (gone : List Outcome) (unsent : Unsent) → whole gone unsent ≡ old → {writes : ℕ} {size result : Result ℕ Refusal} →
       writes ≡ length old.promises → size ≡ pending_size_of unsent.settings.estimate message →
-      result ≡ admitted limit writes size (whole [] unsent) → result ≡ asked
+      result ≡ admitted limit writes size (whole [] unsent) → result ≡ asked limit message old
   asked_there gone unsent view {writes} {size} given counted is =
       is ∙ whatever_gone limit writes size gone unsent ∙ ap (λ (n : ℕ). admitted limit n size (whole gone unsent)) given
       ∙ ap (λ (one : Result ℕ Refusal). admitted limit (length old.promises) one (whole gone unsent)) counted
       ∙ ap (λ (now : Pending). admitted limit (length old.promises) (pending_size_of now.settings.estimate message) now) view
 
   -- what refuses a message refuses its write first
-  pub first_is : result_err asked ≡ first_of_step old (write_step_within limit message old)
+  pub first_is : result_err (asked limit message old) ≡ first_of_step old (write_step_within limit message old)
   first_is = grind arith
 
-  pub refusal_other : {refusal : Refusal} → Err refusal ≡ asked → ¬ (refusal ≡ NoMemory)
+  pub refusal_other : {refusal : Refusal} → Err refusal ≡ asked limit message old → ¬ (refusal ≡ NoMemory)
   refusal_other {refusal} is same =
       wants_none limit (length old.promises) (pending_size_of old.settings.estimate message) old
       (size_wants_none old message) (grind arith)
 
   -- a write that is refused
-  pub write_refused : {refusal : Refusal} → Err refusal ≡ asked →
+  pub write_refused : {refusal : Refusal} → Err refusal ≡ asked limit message old →
       Makes old (write_step_within limit message old) (Err refusal) old
   write_refused {refusal} is =
       makes_refused old (write_step_within limit message old) refusal (refusal_other is) (sym first_is ∙ ap result_err (sym is))
 
-  module _ {size : ℕ} (is : Ok size ≡ asked) where
+  module _ {size : ℕ} (is : Ok size ≡ asked limit message old) where
     -- what is so if it is not
     unclosed : old.closed ≡ false
     unclosed = grind arith

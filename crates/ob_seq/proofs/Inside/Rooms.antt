@@ -3,7 +3,8 @@ use Rattle.ob_seq.proofs.Words.{[], ◌≡◌, ℕ, zero, suc, ◌+◌, ◌∷�
 use Rattle.ob_seq.proofs.Words.{Outcome, Unsent, whole, waiting_count, fixed_state, waiting_state, Pending, times, next_flushed}
 use Rattle.ob_seq.proofs.Words.{Settled, map, PromiseState, slice_set, cond, Bool, false, true, Fixed, Waiting, get_or, ◌<◌, ◌≤◌, front_taken, unflushed_id, front_id}
 use Rattle.ob_seq.proofs.Words.{Entry, PendingEntry, pending_entry, unreached_entry, pending_entries, is_waiting, drop, append_assoc, ltb, nat_tests}
-use Rattle.ob_seq.specs.Steps.Commands.{front_skipped, is_next_cancelled}
+use Rattle.ob_types.specs.declared.message.Message.{Message}
+use Rattle.ob_seq.specs.Steps.Commands.{front_skipped, is_next_cancelled, written}
 use Rattle.ob_seq.specs.Steps.Step.{is_first_voided, promise_set, state_at}
 use Rattle.std.proofs.Math.ListN.{get_or-append}
 use Rattle.std.proofs.lemmas.List.{drop_at}
@@ -21,10 +22,23 @@ promises_there gone unsent =
     (map fixed_state unsent.line ++ map waiting_state unsent.unflushed) in
     omega arith
 
+-- as many entries are seen in line as stand there
+pub line_there : (gone : List Outcome) (unsent : Unsent) {now : Pending} → whole gone unsent ≡ now →
+    length now.line ≡ length unsent.line
+line_there gone unsent view = rw (← view) (length-map unsent.line pending_entry)
+
 -- if a step leaves as many promises, as many messages wait
 pub same_waiting : (old new : Unsent) → length (whole [] new).promises ≡ length (whole [] old).promises →
     waiting_count new ≡ waiting_count old
 same_waiting old new same = omega (arith, promises_there [] old, promises_there [] new)
+
+-- one message more waits after a write
+pub added_waiting : (old new : Unsent) (message : Message) (size : ℕ) →
+    whole [] new ≡ written (whole [] old) message size → waiting_count new ≡ waiting_count old + 1
+added_waiting old new message size is =
+    let same = ap (λ (one : Pending). length one.promises) is in
+    let more = length-append (whole [] old).promises (Waiting ∷ []) in
+    omega (arith, promises_there [] old, promises_there [] new)
 
 set_by : (flag : Bool) (promises : List PromiseState) (id : ℕ) (state : PromiseState) →
     length (cond flag promises (slice_set promises id state)) ≡ length promises

@@ -5,7 +5,7 @@ use Rattle.std.specs.Prelude.{◌^◌, bit_and, bit_or, Result, Ok, Err}
 use Rattle.std.specs.Int.{bit_not, w32}
 use Rattle.ob_types.specs.Change.{change_between}
 use Rattle.ob_types.specs.Limits.{greatest_total, greatest_progress}
-use Rattle.ob_types.specs.PendingSize.{counted_bytes, is_oversize}
+use Rattle.ob_types.specs.PendingSize.{counted_bytes, is_oversize, pending_size_of}
 use Rattle.ob_types.specs.declared.message.Message.{Message}
 use Rattle.ob_types.specs.declared.promise.PromiseState.TheVariants.{Waiting, Fixed, Settled}
 use Rattle.ob_types.specs.declared.refusal.Refusal.TheVariants.{Oversize, TooMuch, TooManyBytes, NothingFlushed, TooFar}
@@ -61,6 +61,10 @@ admitted_open limit writes (Ok size) old =
 -- what it counts, unless anything but lack of memory refuses it
 abbrev pub admitted : Option ℕ → ℕ → Result ℕ Refusal → Pending → Result ℕ Refusal
 admitted limit writes size old = if old.closed then Err Closed else admitted_open limit writes size old
+
+-- what a message counts that is written now, unless anything but lack of memory refuses it
+abbrev pub asked : Option ℕ → Message → Pending → Result ℕ Refusal
+asked limit message old = admitted limit (length old.promises) (pending_size_of old.settings.estimate message) old
 
 -- a write as a step, under a limit on writes
 abbrev pub write_step_within : Option ℕ → Message → Pending → Step

@@ -1,33 +1,34 @@
 //! The looks at a buffer: at its state, at its promises and at its messages.
 
 ghost use Rattle.std.specs.Option.{option_copied};
-ghost use Rattle.std.specs.Prelude.{◌≡◌, [], List, IfOk, IfErr, IsOk};
+ghost use Rattle.std.specs.Prelude.{◌≡◌, ◌<◌, ◌≤◌, [], List, length, IfOk, IfErr, IsOk};
+ghost use Rattle.ob_types.specs.Limits.{most_writes};
 ghost use Rattle.ob_types.specs.declared.command.Command.{Command};
 ghost use Rattle.ob_seq.specs.Looks.{current_after, flushed_after, front_promise_after, gathered_after, look_after, promise_after};
-ghost use Rattle.ob_seq.specs.Pending.{Gives, Settles, StandsFor};
+ghost use Rattle.ob_seq.specs.Pending.{Gives, StandsFor};
+ghost use Rattle.ob_seq.specs.Steps.Step.{state_at};
 ghost use Rattle.ob_seq.specs.State.{writable_after, empty_after, closed_after, user_writable_after, writes_left_after};
 
-use crate::buffer::Buffer;
+use crate::buffer::{Buffer, MAX_WRITES};
 use crate::contents::word;
 use crate::flushed::Flushed;
 use crate::look::Look;
-use crate::whole::write::MAX_WRITES;
 use bytes::Bytes;
-use ob_types::{Command, Message, PromiseId, PromiseState, Refusal};
+use ob_types::{Message, PromiseId, PromiseState, Refusal};
 
 impl Buffer {
     /// What is pending now. It changes nothing, takes the same few steps whatever is pending, and does not allocate.
     pub fn look(&self) -> Look
         ensures { Gives self.now look_after result }
     {
-        let whole = &self.whole;
+        let contents = &self.contents;
         Look {
-            total: whole.total(),
-            word: whole.word(),
-            size: whole.line_count() as u32,
-            before_unwritable: whole.before_unwritable(),
-            before_writable: whole.before_writable(),
-            current_progress: whole.current_progress(),
+            total: contents.total(),
+            word: contents.word(),
+            size: contents.line_count() as u32,
+            before_unwritable: contents.before_unwritable(),
+            before_writable: contents.before_writable(),
+            current_progress: contents.current_progress(),
         }
     }
 
@@ -36,7 +37,7 @@ impl Buffer {
     pub fn is_writable(&self) -> bool
         ensures { Gives self.now writable_after result }
     {
-        self.whole.word() == 0
+        self.contents.word() == 0
     }
 
     /// Whether no message is flushed and not yet removed, voided ones too (Netty's `isEmpty`). As in Netty, messages
@@ -44,14 +45,14 @@ impl Buffer {
     pub fn is_empty(&self) -> bool
         ensures { Gives self.now empty_after result }
     {
-        self.whole.line_count() == 0
+        self.contents.line_count() == 0
     }
 
     /// Whether a close was accepted: from then on each command is refused as `Closed`. It does not allocate.
     pub fn is_closed(&self) -> bool
         ensures { Gives self.now closed_after result }
     {
-        self.whole.is_closed()
+        self.contents.is_closed()
     }
 
     /// Whether the user bit of this index is clear (Netty's `getUserDefinedWritability`). The indexes are 1 to 31; of
@@ -59,11 +60,10 @@ impl Buffer {
     pub fn user_defined_writability(&self, index: u32) -> bool
         ensures { Gives self.now (user_writable_after index) result }
     {
-        let whole = &self.whole;
         if index == 0 || index > 31 {
             return true;
         }
-        !word::has_bit(whole.word(), index)
+        !word::has_bit(self.contents.word(), index)
     }
 
     /// How many more writes can be accepted: 1048576 less those that were accepted from the opening on, and 0 once the
@@ -71,11 +71,10 @@ impl Buffer {
     pub fn writes_left(&self) -> u32
         ensures { Gives self.now writes_left_after result }
     {
-        let whole = &self.whole;
-        if whole.is_closed() {
+        if self.contents.is_closed() {
             return 0;
         }
-        (MAX_WRITES - whole.promise_count()) as u32
+        (MAX_WRITES - self.promise_count()) as u32
     }
 
     /// What has become of a promise, or nothing if no write was accepted under the id. It takes the same few steps
@@ -83,10 +82,9 @@ impl Buffer {
     pub fn promise(&self, id: PromiseId) -> Option<PromiseState>
         ensures { Gives self.now (λ settings commands. promise_after settings commands id) result }
     {
-        let whole = &self.whole;
         let at = id.0 as usize;
-        if at < whole.promise_count() {
-            Some(whole.state_at(at))
+        if at < self.promise_count() {
+            Some(self.state_at(at))
         } else {
             None
         }
@@ -97,7 +95,7 @@ impl Buffer {
     pub fn current(&self) -> Option<&Message>
         ensures { Gives self.now current_after (option_copied result) }
     {
-        self.whole.current()
+        self.contents.current()
     }
 
     /// The promise of the first flushed message, which is the one that `current` shows; none exactly if `current` is none.
@@ -106,11 +104,10 @@ impl Buffer {
     pub fn front(&self) -> Option<PromiseId>
         ensures { Gives self.now front_promise_after result }
     {
-        let whole = &self.whole;
-        if whole.line_count() == 0 {
+        if self.contents.line_count() == 0 {
             return None;
         }
-        Some(PromiseId(whole.front_id() as u32))
+        Some(PromiseId(self.gone.len() as u32))
     }
 
     /// What is left of each flushed message that was not voided, oldest first (Netty's `forEachFlushedMessage`). It
@@ -118,16 +115,7 @@ impl Buffer {
     pub fn flushed(&self) -> Flushed<'_>
         ensures { Gives self.now flushed_after result }
     {
-        self.whole.to_send()
-    }
-
-    /// How many promises a command would settle: the number of settlements in its reply, and 0 if it would be refused.
-    /// It changes nothing, does not allocate, and goes no further than the command would. A command that is no write
-    /// and settles at most four promises does not allocate either. Our own.
-    pub fn settles(&self, command: &Command) -> u32
-        ensures { Settles self.now command.now result }
-    {
-        self.whole.settles(command)
+        self.contents.to_send()
     }
 
     /// The flushed blocks in front that can be sent at once (Netty's `nioBuffers`): those that hold a byte, up to the
@@ -145,6 +133,26 @@ impl Buffer {
         ensures frugal { (commands : List Command) → StandsFor self.now commands
             → gathered_after self.now.settings commands max_count max_bytes ≡ [] → IsOk result }
     {
-        self.whole.gather(max_count, max_bytes)
+        self.contents.gather(max_count, max_bytes)
+    }
+
+    /// How many promises were given.
+    pub(super) fn promise_count(&self) -> usize
+        ensures count { result ≡ length self.now.promises }
+        ensures few { result ≤ most_writes }
+    {
+        self.gone.len() + self.contents.count()
+    }
+
+    /// The state of the promise with this id.
+    pub(super) fn state_at(&self, id: usize) -> PromiseState
+        requires { id < length self.now.promises }
+        ensures { result ≡ state_at self.now id }
+    {
+        let gone = self.gone.len();
+        if id < gone {
+            return PromiseState::Settled(self.gone.at(id));
+        }
+        self.contents.state_at(id - gone)
     }
 }

@@ -1,7 +1,7 @@
 ghost use Rattle.std.specs.Prelude.{◌≡◌, ◌<◌, ◌≤◌, ◌+◌, ◌++◌, ◌∷◌, [], not, List, length, map, drop, if◌then◌else◌};
 ghost use Rattle.std.specs.Prelude.{IsErrOf, OnErr};
 ghost use Rattle.ob_types.specs.declared.promise.Cause.{Cause};
-ghost use Rattle.ob_types.specs.declared.promise.Outcome.{Outcome};
+ghost use Rattle.ob_types.specs.declared.promise.Outcome.{Outcome as AnOutcome};
 ghost use Rattle.ob_types.specs.declared.promise.Outcome.TheVariants.{Cancelled, Failed};
 ghost use Rattle.ob_seq.specs.Answer.{told_by};
 ghost use Rattle.ob_seq.specs.Steps.Step.{is_first_voided, Makes};
@@ -10,7 +10,7 @@ ghost use Rattle.ob_seq.specs.Steps.Within.{TakesCut, TakesFirst, front_endings,
 ghost use Rattle.ob_seq.specs.Unsent.{ended, pending_entries, waiting_count, whole};
 
 use crate::contents::{Contents, Cut, word};
-use ob_types::{Change, Refusal};
+use ob_types::{Change, Outcome, Refusal};
 
 /// The front that a removal took away.
 #[derive(Clone, Copy, Debug)]
@@ -21,11 +21,24 @@ pub struct Front {
     pub change: Option<Change>,
 }
 
+impl Front {
+    /// How it ended, if it left with this outcome.
+    pub(crate) fn ending(self, outcome: Outcome) -> Outcome
+        ensures { result ≡ (if self.settles then outcome else Cancelled) }
+    {
+        if self.settles {
+            outcome
+        } else {
+            Outcome::Cancelled
+        }
+    }
+}
+
 impl Contents {
     /// Takes the front away with notice, if there is one, whatever the outcome is that it leaves with.
     #[inline(always)]
     pub fn remove(&mut self) -> Result<Option<Front>, Refusal>
-        ensures makes { (gone : List Outcome) (outcome : Outcome) → Makes (whole gone self.old)
+        ensures makes { (gone : List AnOutcome) (outcome : AnOutcome) → Makes (whole gone self.old)
             (removal_step outcome (whole gone self.old)) (told_by (front_reply (length gone) outcome) result)
             (whole (gone ++ front_endings outcome result) self.new) }
         ensures fewer { waiting_count self.old ≡ waiting_count self.new + length (front_endings Cancelled result) }
@@ -52,7 +65,7 @@ impl Contents {
     pub fn take_front(&mut self, notice: bool) -> bool
         requires { 0 < length self.old.line }
         ensures settles { result ≡ not (is_first_voided (pending_entries self.old.line)) }
-        ensures taken { (gone : List Outcome) (outcome : Outcome) →
+        ensures taken { (gone : List AnOutcome) (outcome : AnOutcome) →
             whole (gone ++ (if result then outcome else Cancelled) ∷ []) self.new
             ≡ front_taken notice outcome (whole gone self.old) }
         ensures room { self.new.room ≡ self.old.room }
@@ -90,7 +103,7 @@ impl Contents {
     pub fn shut(&mut self)
         requires { length self.old.line ≡ 0 }
         ensures none { waiting_count self.new ≡ 0 }
-        ensures closed { (gone : List Outcome) (cause : Cause) →
+        ensures closed { (gone : List AnOutcome) (cause : Cause) →
             whole (gone ++ map (ended (Failed cause)) self.old.unflushed) self.new
             ≡ closed_pending cause (whole gone self.old) }
         ensures room { self.new.room ≡ self.old.room }

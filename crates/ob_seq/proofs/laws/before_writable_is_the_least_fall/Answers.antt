@@ -9,9 +9,6 @@ least_fall : (marks : Marks) (word sum fall : ℕ) → 0 < marks.low → sum ≤
     0 < before_writable marks word sum → before_writable marks word sum ≤ fall ↔ sum - fall < marks.low
 least_fall marks word sum fall some within shown = grind (arith, nat_tests)
 
-pub returns-clause-least : goal.returns-clause-least
-returns-clause-least c = least_fall
-
 pub returns-clause-at_a_look : goal.returns-clause-at_a_look
 returns-clause-at_a_look c settings commands fall accepted some shown =
     least_fall (marks_after settings commands) (word_after settings commands)

@@ -9,7 +9,8 @@ use Rattle.ob_seq.specs.Unsent.{ended, pending_entry}
 use Rattle.ob_connection.specs.Obeying.{taken_reply}
 use Rattle.ob_connection.proofs.Kept.{nothing_told, same_change}
 use Rattle.ob_connection.proofs.Making.{closed, refused, steps_roomed, taken}
-use Rattle.ob_connection.proofs.Settling.{close_replied, flushed_left, none_left}
+use Rattle.ob_seq.proofs.Inside.LetGo.{flushed_left, none_left}
+use Rattle.ob_connection.proofs.Settling.{close_replied}
 use Rattle.ob_connection.proofs.inner.Inner.close.Goals as goal
 
 pub returns-then-is_closed-clause-moves : goal.returns-then-is_closed-clause-moves

@@ -14,23 +14,9 @@ by_offer : {told offer : Offer} (ending : Ending) → told ≡ offer → EndsWit
     EndsWithin 1 (answers_in (answer_of told)) ending
 by_offer ending same ends = subst (λ one. EndsWithin 1 (answers_in (answer_of one)) ending) (sym same) ends
 
-pub returns-in-Nothing-clause-asked : goal.returns-in-Nothing-clause-asked
-returns-in-Nothing-clause-asked c = by_offer Drained c.in-Nothing.is (none_took, omega arith)
-
-pub returns-in-Nothing-2-clause-asked : goal.returns-in-Nothing-2-clause-asked
-returns-in-Nothing-2-clause-asked c = by_offer OtherInFront c.in-Nothing-2.is (none_took, omega arith)
-
 pub returns-in-Took-clause-asked : goal.returns-in-Took-clause-asked
 returns-in-Took-clause-asked c =
     by_offer Blocked (c.in-Took.is ∙ ap Took c.if-bytes-eq0.true) (stopped_at_once _ Blocked refl, omega arith)
-
-pub returns-in-Took-2-clause-asked : goal.returns-in-Took-2-clause-asked
-returns-in-Took-2-clause-asked c =
-    by_offer Drained c.in-Took.is (one_took c.in-Took.bytes (omega (arith, c.if-bytes-eq0.false)), omega arith)
-
-pub returns-in-Took-3-clause-asked : goal.returns-in-Took-3-clause-asked
-returns-in-Took-3-clause-asked c =
-    by_offer TurnsUsed c.in-Took.is (one_took c.in-Took.bytes (omega (arith, c.if-bytes-eq0.false)), refl)
 
 pub returns-in-Blocked-clause-asked : goal.returns-in-Blocked-clause-asked
 returns-in-Blocked-clause-asked c = by_offer Blocked c.in-Blocked.is (stopped_at_once _ Blocked refl, omega arith)

@@ -77,14 +77,3 @@ returns-clause-moves g c =
     (change_between (held past).word (removed bytes (held past)).word) end (few_gone bytes inside.unsent)
     (same_change c.word-before.ensures (ap (λ (one : Pending). one.word) (becomes past).1)))
     becomes
-
-pub returns-clause-asks : goal.returns-clause-asks
-returns-clause-asks g c =
-    let asks = c.loop.invariant.asks in
-    let few = c.loop.invariant.few in
-    let due = IsLeft c.args.max_bytes c.args.self.now in
-    elim c.loop-test.branch [
-      | else-loop-test w ↦ asks_all due (omega (arith, few, w.loop-test.false, c.loop.auto.counter)) asks
-      | then-loop-test+then-not-goes_on w ↦ asks_within due
-          (w.goes_on.ensures.no w.if-not-goes_on.true) few asks
-    ]

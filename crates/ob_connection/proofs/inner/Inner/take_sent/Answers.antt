@@ -7,7 +7,8 @@ use Rattle.ob_seq.specs.declared.contents.cut.Cut.{Cut}
 use Rattle.ob_connection.specs.Obeying.{taken_reply}
 use Rattle.ob_connection.proofs.Kept.{same_change}
 use Rattle.ob_connection.proofs.Making.{closed, refused, taken}
-use Rattle.ob_connection.proofs.Settling.{a_cut, line_replied, no_cut}
+use Rattle.ob_seq.proofs.Inside.LetGo.{a_cut, no_cut}
+use Rattle.ob_connection.proofs.Settling.{line_replied}
 use Rattle.ob_connection.proofs.inner.Inner.take_sent.Goals as goal
 
 pub returns-then-is_closed-clause-moves : goal.returns-then-is_closed-clause-moves
@@ -27,12 +28,12 @@ returns-clause-moves c =
     let becomes : Becomes (bytes_removed cut) inside c.take_cut.new.self =
     subst (λ one. Becomes (bytes_removed cut) one c.take_cut.new.self) (sym c.self.view_is) c.take_cut.ensures.becomes in
     let found : (past : Past inside) → cut ≡ whole_cut n (blocks_left (held past).line) =
-    λ past. (a_cut n (held past) cut c.in-Some.ensures.value).1 in
+    λ past. (a_cut n (held past) c.in-Some.ensures.value).1 in
     let end : c.take_cut.new.self.gone ≡ c.self.inside.gone + cut.whole =
     c.take_cut.ensures.gone ∙ ap (λ (one : Connected). one.gone + cut.whole) (sym c.self.view_is) in
     taken (bytes_step n) taken_reply c.self.view_is (sym c.is_closed.ensures ∙ c.if-is_closed.false)
     c.taken_since.result
-    (λ past. (a_cut n (held past) cut c.in-Some.ensures.value).0)
+    (λ past. (a_cut n (held past) c.in-Some.ensures.value).0)
     (λ past. ap (taken_reply (held past).promises) c.taken_since.ensures
     ∙ line_replied past c.take_cut.new.self.gone cut.whole Success _
     (change_between (held past).word (bytes_removed cut (held past)).word) end c.in-Some.ensures.within

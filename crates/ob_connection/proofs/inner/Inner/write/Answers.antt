@@ -7,7 +7,8 @@ use Rattle.ob_seq.specs.Steps.Commands.{write_step_within}
 use Rattle.ob_seq.proofs.Inside.Admitted.{few, light, refusal_other, write_made, write_wanting}
 use Rattle.ob_connection.specs.Obeying.{written_reply}
 use Rattle.ob_connection.proofs.Asking.{asked_held, first_there, ids_there}
-use Rattle.ob_connection.proofs.Kept.{added_waiting, some_past}
+use Rattle.ob_seq.proofs.Inside.Rooms.{added_waiting}
+use Rattle.ob_connection.proofs.Kept.{some_past}
 use Rattle.ob_connection.proofs.Making.{first_refused, made_within}
 use Rattle.ob_connection.proofs.inner.Inner.write.Goals as goal
 
@@ -20,14 +21,6 @@ returns-in-Err-clause-moves c =
     (refusal_other connection_limit c.args.message (held past)
     (asked_held c.self.view_is given c.args.message counted c.in-Err.ensures past))
     (first_there c.self.view_is given c.args.message counted c.in-Err.ensures)
-
-pub add-requires : goal.add-requires
-add-requires c =
-    let counted = c.pending_size-size.ensures ∙ ap (λ (one : Estimate). pending_size_of one c.args.message) c.estimate.ensures in
-    let past = some_past (connected_of c.self.inside) in
-    let fits = light connection_limit c.args.message (held past)
-    (asked_held c.self.view_is c.accepted_writes-id.ensures.count c.args.message counted c.in-Ok.ensures past) in
-    grind (arith, nat_tests)
 
 pub returns-in-Err-add-clause-moves : goal.returns-in-Err-add-clause-moves
 returns-in-Err-add-clause-moves c =

@@ -1,5 +1,6 @@
 use Rattle.ob_seq.proofs.Words.{◌≡◌, ℕ, List, ap, ◌∙◌, blocks_left, first_blocks, with_bytes, Command, Pending, StandsFor}
 use Rattle.std.proofs.lemmas.Result.{IfOk-weaker}
+use Rattle.ob_seq.specs.Kept.{pending_of}
 use Rattle.ob_seq.specs.Looks.{gathered_after}
 use Rattle.ob_seq.proofs.Inside.Looked.{gathered_is}
 use Rattle.ob_seq.proofs.buffer.Buffer.gather.Goals as goal
@@ -14,10 +15,10 @@ gathered_there held now same limit most commands stands =
 
 pub returns-clause-blocks : goal.returns-clause-blocks
 returns-clause-blocks c =
-    let there = gathered_there c.self.inside.whole c.args.self.now c.self.view_is c.args.max_count c.args.max_bytes in
+    let there = gathered_there (pending_of c.self.inside) c.args.self.now c.self.view_is c.args.max_count c.args.max_bytes in
     IfOk-weaker c.gather.result _ _ (λ blocks is commands stands. is ∙ there commands stands) c.gather.ensures.blocks
 
 pub returns-clause-frugal : goal.returns-clause-frugal
 returns-clause-frugal c commands stands nothing =
-    let there = gathered_there c.self.inside.whole c.args.self.now c.self.view_is c.args.max_count c.args.max_bytes in
+    let there = gathered_there (pending_of c.self.inside) c.args.self.now c.self.view_is c.args.max_count c.args.max_bytes in
     c.gather.ensures.frugal (there commands stands ∙ nothing)

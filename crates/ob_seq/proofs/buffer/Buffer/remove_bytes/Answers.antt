@@ -1,13 +1,52 @@
-use Rattle.ob_seq.proofs.Words.{RemoveBytes}
-use Rattle.ob_seq.proofs.Simulating.Simulated.{obeys, spares, stays}
+use Rattle.ob_seq.proofs.Words.{RemoveBytes, sym, ◌∙◌, ap, arith, length, whole}
+use Rattle.std.specs.Prelude.{Err}
+use Rattle.std.proofs.lemmas.Result.{err_from_is_err_and}
+use Rattle.ob_seq.specs.Kept.{pending_of}
+use Rattle.ob_seq.specs.Outcomes.{Endings}
+use Rattle.ob_seq.proofs.Inside.LetGo.{a_cut, no_cut, removal_settles, removes_bytes}
+use Rattle.ob_seq.proofs.Simulating.Kept.{refused, spared, wanted}
+use Rattle.ob_seq.proofs.Simulating.Simulated.{obeys, stays}
 use Rattle.ob_seq.proofs.buffer.Buffer.remove_bytes.Goals as goal
 
-pub invariant_of-self : goal.invariant_of-self
-invariant_of-self c = stays (RemoveBytes c.args.n) _ c.remove_bytes.ensures.makes c.self.invariant
+pub returns-in_default-clause-obeys : goal.returns-in_default-clause-obeys
+returns-in_default-clause-obeys c =
+    refused (RemoveBytes c.args.n) c.self.view_is (λ same. absurd (cc)) (sym c.is_closed.ensures ∙ c.if-is_closed.false)
+    (no_cut c.args.n (pending_of c.self.inside) c.in_default.ensures.value)
+
+pub returns-in_err-settled-clause-obeys : goal.returns-in_err-settled-clause-obeys
+returns-in_err-settled-clause-obeys c =
+    let now = pending_of c.self.inside in
+    let err = err_from_is_err_and c.from_residual.result c.from_residual.ensures.1 in
+    wanted (RemoveBytes c.args.n) c.self.view_is (sym c.is_closed.ensures ∙ c.if-is_closed.false)
+    (a_cut c.args.n now c.in-Some.ensures.value).0 (err.1 ∙ ap Err err.2)
+    (ap (λ (gone : Endings). whole gone.list c.self.inside.contents) c.in_err-settled.ensures.refused)
+
+pub returns-in_err-settled-clause-spares : goal.returns-in_err-settled-clause-spares
+returns-in_err-settled-clause-spares c =
+    let now = pending_of c.self.inside in
+    let many = removal_settles c.self.inside.gone.list c.self.inside.contents c.args.n c.in-Some.ensures.value c.in-Some.ensures.within in
+    let err = err_from_is_err_and c.from_residual.result c.from_residual.ensures.1 in
+    spared (RemoveBytes c.args.n) c.self.view_is (sym c.is_closed.ensures ∙ c.if-is_closed.false)
+    (a_cut c.args.n now c.in-Some.ensures.value).0 (err.1 ∙ ap Err err.2) (ap length many) c.in_err-settled.ensures.frugal
+
+pub invariant_of-self-2 : goal.invariant_of-self-2
+invariant_of-self-2 c =
+    let inside = c.self.inside in
+    let went = c.in_ok-settled.ensures in
+    let made = removes_bytes inside.gone.list inside.contents c.take_cut.new.self
+    (sym c.is_closed.ensures ∙ c.if-is_closed.false) c.args.n c.in-Some.ensures.value c.in-Some.ensures.within went.settled went.list
+    c.take_cut.ensures in record {
+      few_writes = omega (arith, c.self.invariant.few_writes, went.len, c.take_cut.ensures.fewer);
+      room = omega (arith, c.self.invariant.room, went.room, c.take_cut.ensures.fewer);
+      stands = stays (RemoveBytes c.args.n) _ made c.self.invariant.stands;
+    }
 
 pub returns-clause-obeys : goal.returns-clause-obeys
-returns-clause-obeys c = obeys (RemoveBytes c.args.n) _ c.remove_bytes.ensures.makes c.self.view_is
-
-pub returns-clause-spares : goal.returns-clause-spares
-returns-clause-spares c =
-    spares (RemoveBytes c.args.n) _ c.remove_bytes.ensures.makes c.self.view_is c.remove_bytes.ensures.frugal
+returns-clause-obeys c =
+    let inside = c.self.inside in
+    let went = c.in_ok-settled.ensures in
+    let made = removes_bytes inside.gone.list inside.contents c.take_cut.new.self
+    (sym c.is_closed.ensures ∙ c.if-is_closed.false) c.args.n c.in-Some.ensures.value c.in-Some.ensures.within went.settled went.list
+    c.take_cut.ensures in
+    rw (c.between.ensures, c.word-before.ensures, c.word.ensures)
+    (obeys (RemoveBytes c.args.n) _ made c.self.view_is)

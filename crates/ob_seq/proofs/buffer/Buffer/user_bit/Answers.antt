@@ -1,9 +1,10 @@
-use Rattle.ob_seq.proofs.Words.{UserBit}
-use Rattle.ob_seq.proofs.Simulating.Simulated.{obeys, stays}
+use Rattle.ob_seq.proofs.Words.{refl, UserBit}
+use Rattle.ob_seq.proofs.Simulating.Kept.{kept, obeyed}
 use Rattle.ob_seq.proofs.buffer.Buffer.user_bit.Goals as goal
 
-pub invariant_of-self : goal.invariant_of-self
-invariant_of-self c = stays (UserBit c.args.index c.args.writable) _ c.user_bit.ensures.makes c.self.invariant
+pub invariant_of-self-2 : goal.invariant_of-self-2
+invariant_of-self-2 c = kept (UserBit c.args.index c.args.writable) c.in_ok-change.ensures c.self.invariant
 
 pub returns-clause-obeys : goal.returns-clause-obeys
-returns-clause-obeys c = obeys (UserBit c.args.index c.args.writable) _ c.user_bit.ensures.makes c.self.view_is
+returns-clause-obeys c =
+    obeyed (UserBit c.args.index c.args.writable) c.in_ok-change.ensures c.self.inside.gone.list c.self.view_is (rw c.reply.ensures refl)

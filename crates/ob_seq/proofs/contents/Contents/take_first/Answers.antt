@@ -7,9 +7,6 @@ use Rattle.ob_seq.proofs.Inside.Rooms.{fewer_waiting}
 use Rattle.ob_seq.proofs.Inside.Times.{line_of_times}
 use Rattle.ob_seq.proofs.contents.Contents.take_first.Goals as goal
 
-pub loop-init : goal.loop-init
-loop-init c = record { taken = λ gone outcome. rw (append-nil gone) refl; room = refl }
-
 pub take_front-requires : goal.take_front-requires
 take_front-requires c =
     let old = c.args.self.now in

@@ -43,15 +43,3 @@ returns-clause-list c =
           rw w.self-inside-is
           (told_on c.self.inside.runs.items c.self.inside.count c.args.outcome c.self.invariant.begun last ∙ before)
     ]
-
-pub returns-clause-last : goal.returns-clause-last
-returns-clause-last c =
-    elim c.if-ne.branch [
-      | goal.then-ne w ↦ rw (w.self-inside-is, w.push_reserved.ensures.items) (last_more c.self.inside.runs.items _)
-      | goal.else-ne w ↦
-          let same : c.args.outcome ≡ c.outcome_before.result = search (rules, w.if-ne.false, c.ne.ensures) in
-          let all : c.len.result ≡ length c.self.inside.runs.items =
-          omega (arith, c.len.ensures, c.self.inside.runs.ok) in
-          let last = same ∙ c.outcome_before.ensures ∙ rw (c.deref.ensures.value, all) refl in
-          rw w.self-inside-is (sym last)
-    ]
