@@ -12,10 +12,4 @@ pub mod Kept
 pub mod Steps
 pub mod Word
 pub mod Worked
-pub mod WorkedBytes
-pub mod WorkedEndings
-pub mod WorkedHistories
-pub mod WorkedLimits
-pub mod WorkedLooks
-pub mod WorkedMarks
 pub mod WorkedState

@@ -1,26 +1,30 @@
--- The definitions on small histories, worked out by hand.
-use Rattle.std.specs.Prelude.{◌≡◌, ℕ, true, false, List, [], ◌∷◌, ◌++◌, replicate, Option, Some, None, Result, Ok, Err}
+-- What commands answer and leave on small histories, at their ends and at the limits, worked out by hand.
+use Rattle.std.specs.Prelude.{◌≡◌, ℕ, true, false, List, [], ◌∷◌, ◌++◌, replicate, Option, Some, None, Result, Ok}
+use Rattle.std.specs.Prelude.{Err}
 use Rattle.ob_types.specs.declared.command.Command.{Command}
-use Rattle.ob_types.specs.declared.command.Command.TheVariants.{Write, Flush, Remove, RemoveWith, RemoveBytes, Progress}
-use Rattle.ob_types.specs.declared.command.Command.TheVariants.{Cancel, FailFlushed, Close, UserBit, SetMarks}
+use Rattle.ob_types.specs.declared.command.Command.TheVariants.{Write, Flush, Remove, RemoveWith, RemoveBytes}
+use Rattle.ob_types.specs.declared.command.Command.TheVariants.{Progress, Cancel, FailFlushed, Close, UserBit}
+use Rattle.ob_types.specs.declared.command.Command.TheVariants.{SetMarks}
 use Rattle.ob_types.specs.declared.message.Message.TheVariants.{Block, Region, Other}
 use Rattle.ob_types.specs.declared.promise.PromiseId.{PromiseId}
 use Rattle.ob_types.specs.declared.promise.Outcome.{Outcome}
 use Rattle.ob_types.specs.declared.promise.Outcome.TheVariants.{Success, Failed, Cancelled}
 use Rattle.ob_types.specs.declared.refusal.Refusal.{Refusal}
-use Rattle.ob_types.specs.declared.refusal.Refusal.TheVariants.{Oversize, Closed, NothingFlushed, TooFar, TooManyBytes}
-use Rattle.ob_types.specs.declared.refusal.Refusal.TheVariants.{BadIndex, FlushedLeft, UnknownPromise}
+use Rattle.ob_types.specs.declared.refusal.Refusal.TheVariants.{Oversize, Closed, NothingFlushed, TooFar}
+use Rattle.ob_types.specs.declared.refusal.Refusal.TheVariants.{TooManyBytes, BadIndex, FlushedLeft, UnknownPromise}
+use Rattle.ob_types.specs.declared.refusal.Refusal.TheVariants.{TooMuch}
 use Rattle.ob_types.specs.declared.reply.Answer.{Answer}
 use Rattle.ob_types.specs.declared.reply.Answer.TheVariants.{Id, Count, Yes, Done}
 use Rattle.ob_types.specs.declared.reply.Change.{Change}
 use Rattle.ob_types.specs.declared.reply.Change.TheVariants.{Unwritable, Writable}
 use Rattle.ob_types.specs.declared.reply.Reply.{Reply}
+use Rattle.ob_types.specs.declared.promise.PromiseState.TheVariants.{Waiting, Fixed, Settled}
 use Rattle.ob_seq.specs.declared.look.Look.{Look}
 use Rattle.ob_seq.specs.Rows.{Settings, total}
 use Rattle.ob_seq.specs.Effect.{rows_after}
 use Rattle.ob_seq.specs.Word.{word_after}
 use Rattle.ob_seq.specs.Answer.{answer_to, commands_after}
-use Rattle.ob_seq.specs.Looks.{look_after, flushed_after, gathered_after}
+use Rattle.ob_seq.specs.Looks.{look_after, flushed_after, gathered_after, current_after, promise_after}
 
 -- marks low and high, 96 bytes for each entry and 8 for an unknown message
 abbrev pub marked : ℕ → ℕ → Settings
@@ -245,3 +249,211 @@ ClosedOnce =
     ∷ refused Closed 0 0 ∷ refused Closed 0 0 ∷ refused Closed 0 0 ∷ [])
     × (look_after (marked 200 400) (block 4 ∷ Cancel (record { 0 = 0 }) ∷ Close (record { 0 = 3 }) ∷ [])
     ≡ record { total = 0; word = 0; size = 0; before_unwritable = 401; before_writable = 0; current_progress = 0 })
+
+-- a write of a block of these bytes
+abbrev pub block_of : List ℕ → Command
+block_of bytes = Write (Block bytes)
+
+-- two blocks in line, of the first of which bytes were removed twice, and one is left over
+abbrev pub twice_skipped : List Command
+twice_skipped =
+    block_of (11 ∷ 12 ∷ 13 ∷ 14 ∷ 15 ∷ []) ∷ block_of (21 ∷ 22 ∷ []) ∷ Flush ∷ RemoveBytes 2 ∷ RemoveBytes 1 ∷ []
+
+-- skipped bytes add up: a removal begins after those of the removals before it, and at most what is unread is removed
+abbrev pub TwoSkips : Type 0
+TwoSkips =
+    shown (marked 200 400) [] (twice_skipped ++ RemoveBytes 5 ∷ RemoveBytes 3 ∷ [])
+    ≡ replied (Id (record { 0 = 0 })) [] None 101 0 ∷ replied (Id (record { 0 = 1 })) [] None 199 0
+    ∷ replied (Count 2) [] None 199 0 ∷ replied (Count 0) [] None 199 0 ∷ replied (Count 0) [] None 199 0
+    ∷ refused TooManyBytes 199 0 ∷ replied (Count 1) (succeeds 0) None 98 0 ∷ []
+
+-- what a transport sees after two skips, and after a third removal that ends in the next block
+abbrev pub LeftAfterTwoSkips : Type 0
+LeftAfterTwoSkips =
+    (current_after (marked 200 400) twice_skipped ≡ Some (Block (14 ∷ 15 ∷ [])))
+    × (gathered_after (marked 200 400) twice_skipped 8 100 ≡ (14 ∷ 15 ∷ []) ∷ (21 ∷ 22 ∷ []) ∷ [])
+    × (flushed_after (marked 200 400) twice_skipped ≡ Block (14 ∷ 15 ∷ []) ∷ Block (21 ∷ 22 ∷ []) ∷ [])
+    × (look_after (marked 200 400) twice_skipped
+    ≡ record { total = 199; word = 0; size = 2; before_unwritable = 202; before_writable = 0; current_progress = 3 })
+    × (current_after (marked 200 400) (twice_skipped ++ RemoveBytes 3 ∷ []) ≡ Some (Block (22 ∷ [])))
+    × (look_after (marked 200 400) (twice_skipped ++ RemoveBytes 3 ∷ [])
+    ≡ record { total = 98; word = 0; size = 1; before_unwritable = 303; before_writable = 0; current_progress = 1 })
+
+-- three blocks in line, with more pending than the high mark of 200
+abbrev pub three_blocks : List Command
+three_blocks = block_of (1 ∷ 2 ∷ 3 ∷ []) ∷ block_of (4 ∷ 5 ∷ 6 ∷ []) ∷ block_of (7 ∷ 8 ∷ []) ∷ Flush ∷ []
+
+-- a removal of bytes brings writability back with the block that takes the pending bytes below the low mark
+abbrev pub WritableByBytes : Type 0
+WritableByBytes =
+    shown (marked 100 200) [] (three_blocks ++ RemoveBytes 5 ∷ RemoveBytes 2 ∷ [])
+    ≡ replied (Id (record { 0 = 0 })) [] None 99 0 ∷ replied (Id (record { 0 = 1 })) [] None 198 0
+    ∷ replied (Id (record { 0 = 2 })) [] (Some Unwritable) 296 1 ∷ replied (Count 3) [] None 296 1
+    ∷ replied (Count 1) (succeeds 0) None 197 1 ∷ replied (Count 1) (succeeds 1) (Some Writable) 98 0 ∷ []
+
+-- of several blocks that one removal of bytes takes away any may bring writability back, and it is reported once
+abbrev pub WritableByManyBytes : Type 0
+WritableByManyBytes =
+    shown (marked 100 200) [] (three_blocks ++ RemoveBytes 8 ∷ [])
+    ≡ replied (Id (record { 0 = 0 })) [] None 99 0 ∷ replied (Id (record { 0 = 1 })) [] None 198 0
+    ∷ replied (Id (record { 0 = 2 })) [] (Some Unwritable) 296 1 ∷ replied (Count 3) [] None 296 1
+    ∷ replied (Count 3) (succeeds 0 ++ (succeeds 1 ++ succeeds 2)) (Some Writable) 0 0 ∷ []
+
+-- a removal as failed brings writability back as any other does
+abbrev pub WritableByFailure : Type 0
+WritableByFailure =
+    shown (marked 100 200) []
+    (block_of (1 ∷ 2 ∷ 3 ∷ 4 ∷ 5 ∷ 6 ∷ 7 ∷ 8 ∷ 9 ∷ []) ∷ block_of (10 ∷ 11 ∷ 12 ∷ []) ∷ Flush
+    ∷ RemoveWith (record { 0 = 6 }) ∷ [])
+    ≡ replied (Id (record { 0 = 0 })) [] None 105 0 ∷ replied (Id (record { 0 = 1 })) [] (Some Unwritable) 204 1
+    ∷ replied (Count 2) [] None 204 1
+    ∷ replied (Yes true) (settles 0 (Failed (record { 0 = 6 }))) (Some Writable) 99 0 ∷ []
+
+-- a region that was voided, in line before a block, with progress added to it
+abbrev pub voided_region : List Command
+voided_region = Write (Region 700) ∷ block_of (5 ∷ 6 ∷ []) ∷ Cancel (record { 0 = 0 }) ∷ Flush ∷ Progress 7 ∷ []
+
+-- a voided region is an empty block in the byte run: progress may be added to it, and the next removal of bytes takes
+-- it away and settles nothing
+abbrev pub VoidedRegion : Type 0
+VoidedRegion =
+    shown (marked 200 400) [] (voided_region ++ RemoveBytes 3 ∷ RemoveBytes 1 ∷ [])
+    ≡ replied (Id (record { 0 = 0 })) [] None 96 0 ∷ replied (Id (record { 0 = 1 })) [] None 194 0
+    ∷ replied (Yes true) (settles 0 Cancelled) None 194 0 ∷ replied (Count 2) [] None 98 0 ∷ replied Done [] None 98 0
+    ∷ refused TooManyBytes 98 0 ∷ replied (Count 1) [] None 98 0 ∷ []
+
+-- what a transport sees while it stands in front, and when it is gone
+abbrev pub LeftOfAVoidedRegion : Type 0
+LeftOfAVoidedRegion =
+    (current_after (marked 200 400) voided_region ≡ Some (Block []))
+    × (current_after (marked 200 400) (voided_region ++ RemoveBytes 1 ∷ []) ≡ Some (Block (6 ∷ [])))
+    × (gathered_after (marked 200 400) voided_region 8 100 ≡ (5 ∷ 6 ∷ []) ∷ [])
+    × (flushed_after (marked 200 400) voided_region ≡ Block (5 ∷ 6 ∷ []) ∷ [])
+    × (look_after (marked 200 400) voided_region
+    ≡ record { total = 98; word = 0; size = 2; before_unwritable = 303; before_writable = 0; current_progress = 7 })
+    × (look_after (marked 200 400) (voided_region ++ RemoveBytes 1 ∷ [])
+    ≡ record { total = 98; word = 0; size = 1; before_unwritable = 303; before_writable = 0; current_progress = 1 })
+
+-- a region in line before a block
+abbrev pub region_first : List Command
+region_first = Write (Region 700) ∷ block_of (5 ∷ 6 ∷ []) ∷ Flush ∷ []
+
+-- a region that was not voided is what a transport sees in front, and nothing is gathered past it; what is unflushed it
+-- does not see
+abbrev pub RegionInFront : Type 0
+RegionInFront =
+    (current_after (marked 200 400) region_first ≡ Some (Region 700))
+    × (gathered_after (marked 200 400) region_first 8 100 ≡ [])
+    × (flushed_after (marked 200 400) region_first ≡ Region 700 ∷ Block (5 ∷ 6 ∷ []) ∷ [])
+    × (current_after (marked 200 400) (region_first ++ Remove ∷ []) ≡ Some (Block (5 ∷ 6 ∷ [])))
+    × (current_after (marked 200 400) (block_of (5 ∷ 6 ∷ []) ∷ []) ≡ None)
+
+-- a voided message in line keeps a buffer from being closed, though nothing is pending, until it is removed
+abbrev pub ClosedPastAVoided : Type 0
+ClosedPastAVoided =
+    shown (marked 200 400) []
+    (block_of (1 ∷ []) ∷ Cancel (record { 0 = 0 }) ∷ Flush ∷ Close (record { 0 = 3 }) ∷ Remove
+    ∷ Close (record { 0 = 3 }) ∷ [])
+    ≡ replied (Id (record { 0 = 0 })) [] None 97 0 ∷ replied (Yes true) (settles 0 Cancelled) None 97 0
+    ∷ replied (Count 1) [] None 0 0 ∷ refused FlushedLeft 0 0 ∷ replied (Yes true) [] None 0 0
+    ∷ replied (Count 0) [] None 0 0 ∷ []
+
+-- one promise of each end: removed, failed in line, cancelled, and failed by the close
+abbrev pub each_end : List Command
+each_end =
+    block_of (1 ∷ 2 ∷ []) ∷ block_of (3 ∷ []) ∷ Flush ∷ Remove ∷ FailFlushed (record { 0 = 7 }) true ∷ block_of (4 ∷ [])
+    ∷ block_of (5 ∷ 6 ∷ []) ∷ Cancel (record { 0 = 2 }) ∷ Close (record { 0 = 3 }) ∷ []
+
+-- a close fails the promises that still wait, and no other, and then each command is refused
+abbrev pub EachEnd : Type 0
+EachEnd =
+    shown (marked 200 400) [] (each_end ++ Cancel (record { 0 = 0 }) ∷ RemoveBytes 0 ∷ [])
+    ≡ replied (Id (record { 0 = 0 })) [] None 98 0 ∷ replied (Id (record { 0 = 1 })) [] None 195 0
+    ∷ replied (Count 2) [] None 195 0 ∷ replied (Yes true) (succeeds 0) None 97 0
+    ∷ replied (Count 1) (settles 1 (Failed (record { 0 = 7 }))) None 0 0 ∷ replied (Id (record { 0 = 2 })) [] None 97 0
+    ∷ replied (Id (record { 0 = 3 })) [] None 195 0 ∷ replied (Yes true) (settles 2 Cancelled) None 195 0
+    ∷ replied (Count 2) (settles 3 (Failed (record { 0 = 3 }))) None 0 0 ∷ refused Closed 0 0 ∷ refused Closed 0 0 ∷ []
+
+-- what has become of each promise after the close, and of one that nobody was given
+abbrev pub PromisesAfterAClose : Type 0
+PromisesAfterAClose =
+    (promise_after (marked 200 400) each_end (record { 0 = 0 }) ≡ Some (Settled Success))
+    × (promise_after (marked 200 400) each_end (record { 0 = 1 }) ≡ Some (Settled (Failed (record { 0 = 7 }))))
+    × (promise_after (marked 200 400) each_end (record { 0 = 2 }) ≡ Some (Settled Cancelled))
+    × (promise_after (marked 200 400) each_end (record { 0 = 3 }) ≡ Some (Settled (Failed (record { 0 = 3 }))))
+    × (promise_after (marked 200 400) each_end (record { 0 = 4 }) ≡ None)
+
+-- nothing is left for a transport after the close
+abbrev pub NothingLeftAfterAClose : Type 0
+NothingLeftAfterAClose =
+    (current_after (marked 200 400) each_end ≡ None)
+    × (gathered_after (marked 200 400) each_end 8 100 ≡ [])
+    × (flushed_after (marked 200 400) each_end ≡ [])
+
+-- before any end a promise waits, and a flush fixes it, but for one that was cancelled
+abbrev pub PromisesBeforeAnEnd : Type 0
+PromisesBeforeAnEnd =
+    (promise_after (marked 200 400) (block_of (1 ∷ []) ∷ []) (record { 0 = 0 }) ≡ Some Waiting)
+    × (promise_after (marked 200 400) (block_of (1 ∷ []) ∷ Flush ∷ []) (record { 0 = 0 }) ≡ Some Fixed)
+    × (promise_after (marked 200 400) (block_of (1 ∷ []) ∷ Cancel (record { 0 = 0 }) ∷ Flush ∷ []) (record { 0 = 0 })
+    ≡ Some (Settled Cancelled))
+
+-- the widest marks above 0, with this overhead and this size of an unknown message
+abbrev pub wide : ℕ → ℕ → Settings
+wide overhead unknown = record {
+  marks = record { low = 1; high = 2147483647 };
+  estimate = record { overhead = overhead; unknown = unknown };
+}
+
+-- no overhead, and the greatest pending size for an unknown message
+abbrev pub light : Settings
+light = wide 0 2147483647
+
+-- the pending bytes come to their limit, and one more byte is too much; an empty block is none, and a removal makes
+-- room again
+abbrev pub TotalAtItsLimit : Type 0
+TotalAtItsLimit =
+    shown light []
+    (Write (Other 1) ∷ Write (Other 2) ∷ block_of (9 ∷ []) ∷ block_of (8 ∷ []) ∷ block_of [] ∷ Flush ∷ Remove
+    ∷ block_of (8 ∷ []) ∷ [])
+    ≡ replied (Id (record { 0 = 0 })) [] None 2147483647 0
+    ∷ replied (Id (record { 0 = 1 })) [] (Some Unwritable) 4294967294 1
+    ∷ replied (Id (record { 0 = 2 })) [] None 4294967295 1 ∷ refused TooMuch 4294967295 1
+    ∷ replied (Id (record { 0 = 3 })) [] None 4294967295 1 ∷ replied (Count 4) [] None 4294967295 1
+    ∷ replied (Yes true) (succeeds 0) None 2147483648 1 ∷ replied (Id (record { 0 = 4 })) [] None 2147483649 1 ∷ []
+
+-- at the limit of the pending bytes the fall to below a low mark of 1 is all of them
+abbrev pub LookAtTheLimit : Type 0
+LookAtTheLimit =
+    look_after light (Write (Other 1) ∷ Write (Other 2) ∷ block_of (9 ∷ []) ∷ [])
+    ≡ record empty_look { total = 4294967295; word = 1; before_unwritable = 0; before_writable = 4294967295 }
+
+-- an overhead with which a block of one byte has the greatest pending size
+abbrev pub heavy : Settings
+heavy = wide 2147483646 2
+
+-- a message with the greatest pending size is taken, and so is the longest region; one byte more is oversize, and
+-- refused as that also if it would be too much as well
+abbrev pub SizesAtTheirLimits : Type 0
+SizesAtTheirLimits =
+    shown heavy []
+    (block_of (1 ∷ 2 ∷ []) ∷ Write (Other 5) ∷ block_of (3 ∷ []) ∷ Write (Region 9223372036854775807)
+    ∷ Write (Region 9223372036854775808) ∷ block_of (4 ∷ 5 ∷ []) ∷ block_of [] ∷ [])
+    ≡ refused Oversize 0 0 ∷ refused Oversize 0 0 ∷ replied (Id (record { 0 = 0 })) [] None 2147483647 0
+    ∷ replied (Id (record { 0 = 1 })) [] (Some Unwritable) 4294967293 1 ∷ refused Oversize 4294967293 1
+    ∷ refused Oversize 4294967293 1 ∷ refused TooMuch 4294967293 1 ∷ []
+
+-- a block in line with progress up to one below the top, and three of its four bytes removed
+abbrev pub skipped_past_the_top : List Command
+skipped_past_the_top = block_of (1 ∷ 2 ∷ 3 ∷ 4 ∷ []) ∷ Flush ∷ Progress 9223372036854775806 ∷ RemoveBytes 3 ∷ []
+
+-- skipped bytes bring progress up to its top and no further, and are not refused; progress that is added past it is
+abbrev pub ProgressAtItsTop : Type 0
+ProgressAtItsTop =
+    (shown (marked 200 400) [] (skipped_past_the_top ++ Progress 1 ∷ Progress 0 ∷ RemoveBytes 1 ∷ [])
+    ≡ replied (Id (record { 0 = 0 })) [] None 100 0 ∷ replied (Count 1) [] None 100 0 ∷ replied Done [] None 100 0
+    ∷ replied (Count 0) [] None 100 0 ∷ refused TooFar 100 0 ∷ replied Done [] None 100 0
+    ∷ replied (Count 1) (succeeds 0) None 0 0 ∷ [])
+    × (look_after (marked 200 400) skipped_past_the_top
+    ≡ record empty_look { total = 100; size = 1; before_unwritable = 301; current_progress = 9223372036854775807 })
+    × (current_after (marked 200 400) skipped_past_the_top ≡ Some (Block (4 ∷ [])))

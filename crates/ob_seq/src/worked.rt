@@ -3,22 +3,20 @@
 ghost use Rattle.ob_seq.specs.Worked.{TheFirstRun, EqualityWithLow, LowZero, LongRegion, CancelledEntry};
 ghost use Rattle.ob_seq.specs.Worked.{FixedPromise, ProgressTold, RemovedBytes, EmptyFront, EndOfTheByteRun};
 ghost use Rattle.ob_seq.specs.Worked.{MarksOfZero, GatheredBlocks, Looks, SharedWord, SeveralUserBits};
-ghost use Rattle.ob_seq.specs.Worked.{FailedWithoutNotice, FailedWithNotice, FailedVoided, ClosedOnce};
-ghost use Rattle.ob_seq.specs.WorkedBytes.{TwoSkips, LeftAfterTwoSkips, VoidedRegion, LeftOfAVoidedRegion};
-ghost use Rattle.ob_seq.specs.WorkedBytes.{WritableByBytes, WritableByManyBytes, WritableByFailure, RegionInFront};
-ghost use Rattle.ob_seq.specs.WorkedEndings.{ClosedPastAVoided, EachEnd, NothingLeftAfterAClose};
-ghost use Rattle.ob_seq.specs.WorkedEndings.{PromisesAfterAClose, PromisesBeforeAnEnd};
-ghost use Rattle.ob_seq.specs.WorkedHistories.{AcceptedOfThem, FourWrites, SettledInTurn, OneOfEachPlace};
-ghost use Rattle.ob_seq.specs.WorkedHistories.{OutOfOrder, TheFirstTwo, WaitsUnflushedAlone, SentOnlyWhenGone};
-ghost use Rattle.ob_seq.specs.WorkedLimits.{TotalAtItsLimit, LookAtTheLimit, SizesAtTheirLimits, ProgressAtItsTop};
-ghost use Rattle.ob_seq.specs.WorkedLooks.{WritableAtTheMarks, UnwritableAtTheMarks, UnwritableBelowLow};
-ghost use Rattle.ob_seq.specs.WorkedLooks.{UnderAUserBit, UnderALowMarkOfZero, OldestInFront, VoidedInFront};
-ghost use Rattle.ob_seq.specs.WorkedLooks.{PartlySentInFront, NoneInFrontAtAnEnd};
-ghost use Rattle.ob_seq.specs.WorkedMarks.{MarksRaised, MarksLowered, MarksSetTwice, MarksSetBetweenFalls};
-ghost use Rattle.ob_seq.specs.WorkedMarks.{MarksSetBetweenRises, EqualMarksSet, MarksSetUnderAUserBit};
-ghost use Rattle.ob_seq.specs.WorkedMarks.{MarksSetAsTheyAre, MarksSetAtAnEnd, LooksUnderNewMarks, LastMarks};
-ghost use Rattle.ob_seq.specs.WorkedState.{UnwritableByEither, EmptyWithoutALine, ClosedByAClose};
-ghost use Rattle.ob_seq.specs.WorkedState.{UserBitsTold, WritesLeft, WantsOfMemory};
+ghost use Rattle.ob_seq.specs.Worked.{FailedWithoutNotice, FailedWithNotice, FailedVoided, ClosedOnce, TwoSkips};
+ghost use Rattle.ob_seq.specs.Worked.{LeftAfterTwoSkips, VoidedRegion, LeftOfAVoidedRegion, WritableByBytes};
+ghost use Rattle.ob_seq.specs.Worked.{WritableByManyBytes, WritableByFailure, RegionInFront, ClosedPastAVoided};
+ghost use Rattle.ob_seq.specs.Worked.{EachEnd, NothingLeftAfterAClose, PromisesAfterAClose, PromisesBeforeAnEnd};
+ghost use Rattle.ob_seq.specs.Worked.{TotalAtItsLimit, LookAtTheLimit, SizesAtTheirLimits, ProgressAtItsTop};
+ghost use Rattle.ob_seq.specs.WorkedState.{AcceptedOfThem, FourWrites, SettledInTurn, OneOfEachPlace, OutOfOrder};
+ghost use Rattle.ob_seq.specs.WorkedState.{TheFirstTwo, WaitsUnflushedAlone, SentOnlyWhenGone, WritableAtTheMarks};
+ghost use Rattle.ob_seq.specs.WorkedState.{UnwritableAtTheMarks, UnwritableBelowLow, UnderAUserBit};
+ghost use Rattle.ob_seq.specs.WorkedState.{UnderALowMarkOfZero, OldestInFront, VoidedInFront, PartlySentInFront};
+ghost use Rattle.ob_seq.specs.WorkedState.{NoneInFrontAtAnEnd, MarksRaised, MarksLowered, MarksSetTwice};
+ghost use Rattle.ob_seq.specs.WorkedState.{MarksSetBetweenFalls, MarksSetBetweenRises, EqualMarksSet};
+ghost use Rattle.ob_seq.specs.WorkedState.{MarksSetUnderAUserBit, MarksSetAsTheyAre, MarksSetAtAnEnd};
+ghost use Rattle.ob_seq.specs.WorkedState.{LooksUnderNewMarks, LastMarks, UnwritableByEither, EmptyWithoutALine};
+ghost use Rattle.ob_seq.specs.WorkedState.{ClosedByAClose, UserBitsTold, WritesLeft, WantsOfMemory};
 
 #[tactic(auto, unfolding(crate::specs::Word::user_bits))]
 fn worked_rows()
