@@ -1,15 +1,13 @@
 -- What the steps refuse, settle and keep, over what is held.
-use Rattle.ob_connection.proofs.Words.{◌≡◌, refl, ap, ◌∙◌, arith, ℕ, ◌+◌, [], ◌∷◌, Bool}
+use Rattle.ob_connection.proofs.Words.{◌≡◌, refl, ap, ◌∙◌, ℕ, ◌+◌, Bool}
 use Rattle.ob_connection.proofs.Words.{false, length, None, change_between, Outcome}
-use Rattle.ob_connection.proofs.Words.{Pending, Unsent, whole, waiting_count, Past, held, Connected, accepted_writes}
-use Rattle.std.proofs.Common.{length-append, replicate}
+use Rattle.ob_connection.proofs.Words.{Pending, waiting_count, Past, held, Connected, accepted_writes}
+use Rattle.std.proofs.Common.{replicate}
 use Rattle.std.proofs.lemmas.List.{length-replicate}
-use Rattle.ob_types.specs.declared.message.Message.{Message}
 use Rattle.ob_types.specs.declared.promise.Outcome.TheVariants.{Success}
-use Rattle.ob_types.specs.declared.promise.PromiseState.TheVariants.{Waiting}
 use Rattle.ob_connection.proofs.Words.{zero, suc}
 use Rattle.ob_seq.specs.Steps.Step.{front_id, times}
-use Rattle.ob_seq.specs.Steps.Commands.{front_taken, written}
+use Rattle.ob_seq.specs.Steps.Commands.{front_taken}
 use Rattle.ob_seq.proofs.Inside.Rooms.{promises_there, front_id_there as there}
 use Rattle.ob_seq.proofs.Inside.Made.{nothing_turned}
 

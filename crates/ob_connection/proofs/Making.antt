@@ -1,7 +1,7 @@
 -- Steps that are refused, and steps that are taken.
 use Rattle.ob_connection.proofs.Words.{◌≡◌, refl, sym, subst, List, true, false, Some, None, Ok, Err, Refusal, Closed}
 use Rattle.ob_connection.proofs.Words.{NoMemory, Reply, PromiseState, Pending, Step, Makes, Past, held, Steps, Connected}
-use Rattle.ob_connection.proofs.Words.{first_of_step, Option, Command, Moves, step_within, Result, OnErr, Unsent, whole, ap, told_by}
+use Rattle.ob_connection.proofs.Words.{Command, Moves, step_within, Result, OnErr, Unsent, whole, ap, told_by}
 use Rattle.ob_connection.proofs.Words.{connection_limit, ℕ, ◌+◌, ◌++◌, ◌≤◌, ◌∙◌, arith, length, length-append, map, take, Outcome}
 use Rattle.std.proofs.lemmas.List.{length-map, length-take-le}
 use Rattle.ob_seq.specs.Unsent.{ended}

@@ -1,20 +1,16 @@
 -- What messages settle that are taken away, as an interval of ids and as the model lists it.
-use Rattle.ob_connection.proofs.Words.{◌≡◌, refl, sym, ap, ◌∙◌, arith, ℕ, zero, suc, ◌+◌, ◌-◌, ◌<◌, ◌≤◌, List, [], ◌∷◌, ◌++◌, Bool}
-use Rattle.ob_connection.proofs.Words.{true, false, length, map, take, drop, ltb, Option, Outcome, PromiseState, Pending}
-use Rattle.ob_connection.proofs.Words.{Past, held, Connected, Some, None, Refusal, cond, nat_tests}
+use Rattle.ob_connection.proofs.Words.{◌≡◌, refl, sym, ap, ◌∙◌, arith, ℕ, zero, suc, ◌+◌, ◌-◌, ◌≤◌, List, [], ◌∷◌, ◌++◌}
+use Rattle.ob_connection.proofs.Words.{length, map, take, drop, Option, Outcome, PromiseState}
+use Rattle.ob_connection.proofs.Words.{Past, held, Connected}
 use Rattle.std.proofs.lemmas.List.{drop_at, length-map, nil_from_length, take_all}
 use Rattle.ob_types.specs.declared.promise.Cause.{Cause}
 use Rattle.ob_types.specs.declared.promise.Outcome.TheVariants.{Failed}
 use Rattle.ob_types.specs.declared.promise.PromiseState.TheVariants.{Settled}
-use Rattle.ob_types.specs.declared.refusal.Refusal.TheVariants.{FlushedLeft, TooManyBytes}
 use Rattle.ob_types.specs.declared.reply.Answer.TheVariants.{Count}
 use Rattle.ob_types.specs.declared.reply.Change.{Change}
-use Rattle.ob_seq.specs.Looks.{blocks_left}
-use Rattle.ob_seq.specs.Effect.{bytes_in}
-use Rattle.ob_seq.specs.Steps.Commands.{closing_step, failures, bytes_step, cut_of, entry_settlements, whole_cut}
+use Rattle.ob_seq.specs.Steps.Commands.{failures, entry_settlements}
 use Rattle.ob_seq.specs.Steps.Step.{front_id, unflushed_id}
 use Rattle.ob_seq.specs.Unsent.{fixed_state, pending_entries, states_of, unreached_entry, waiting_state}
-use Rattle.ob_seq.specs.declared.contents.cut.Cut.{Cut}
 use Rattle.ob_seq.specs.declared.entry.Entry.{Entry}
 use Rattle.ob_seq.proofs.Inside.Rooms.{fresh_states, promises_there}
 use Rattle.ob_seq.proofs.Rows.Acceptance.{same_reply}

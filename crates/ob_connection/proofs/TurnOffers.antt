@@ -1,60 +1,39 @@
 -- What a turn offers a socket.
-use Rattle.ob_connection.proofs.Words.{◌≡◌, ◌≤◌, ◌<◌, ℕ, zero, suc, ◌+◌, ◌-◌, Bool, true, false, List, [], ◌∷◌, length, take, drop, ltb}
-use Rattle.ob_connection.proofs.Words.{refl, sym, ap, ◌∙◌, arith, length-append, nat_tests, Pending, inl, inr, cond}
+use Rattle.ob_connection.proofs.Words.{◌≡◌, ◌≤◌, ◌<◌, ℕ, zero, suc, ◌+◌, Bool, true, false, List, [], ◌∷◌, length, take, ltb}
+use Rattle.ob_connection.proofs.Words.{refl, sym, ap, ◌∙◌, arith, length-append, nat_tests, Pending, cond}
 use Rattle.std.specs.List.{concat}
 use Rattle.ob_connection.proofs.Words.{Becomes, Connected, Unsent, held}
 use Rattle.std.specs.Prelude.{max, min}
 use Rattle.std.proofs.lemmas.List.{length-take}
 use Rattle.std.proofs.lemmas.List.Sums.{sum_by-cons}
-use Rattle.ob_types.specs.declared.message.Message.{Message}
-use Rattle.ob_types.specs.declared.message.Message.TheVariants.{Block, Region, Other}
-use Rattle.ob_seq.specs.Looks.{PendingEntry, blocks_left, first_blocks, with_bytes}
+use Rattle.ob_seq.specs.Looks.{blocks_left, first_blocks, with_bytes}
 use Rattle.ob_seq.specs.Effect.{bytes_in, pieces_within}
-use Rattle.ob_seq.proofs.Inside.Blocks.{left_from_block, left_from_other}
+use Rattle.ob_seq.specs.Steps.Commands.{front_skipped}
 use Rattle.ob_seq.proofs.Inside.Gathered.{all_bytes, gathered_first, length_of_concat}
 use Rattle.ob_connection.specs.Becoming.{removed}
 use Rattle.ob_connection.specs.Calls.{most_pieces}
 use Rattle.ob_connection.specs.Offering.{IsLeft, offered, run_of}
-use Rattle.ob_connection.proofs.Turns.{in_turns, order, removed_behind, removed_in, removed_none, sent, within_both}
+use Rattle.ob_connection.proofs.Turns.{along_front, behind_is, in_turns, left_is, removed_behind, removed_in, removed_none, within_both}
 
 -- a removal of nothing leaves the same blocks that hold a byte: it takes the empty ones in front away
-nothing_removed : (line : List PendingEntry) (now : Pending) → now.line ≡ line →
-    with_bytes (blocks_left (removed 0 now).line) ≡ with_bytes (blocks_left line)
-nothing_removed [] now is =
-    ap (λ (one : Pending). with_bytes (blocks_left one.line)) (removed_none now (ap blocks_left is))
-    ∙ ap (λ line. with_bytes (blocks_left line)) is
-nothing_removed (entry ∷ entries) now is =
-    by_message entry.message refl (nothing_removed entries (sent now) (ap (drop 1) is))
+nothing_removed : (now : Pending) → with_bytes (blocks_left (removed 0 now).line) ≡ with_bytes (blocks_left now.line)
+nothing_removed now =
+    along_front (λ now n. n ≡ 0 → with_bytes (blocks_left (removed n now).line) ≡ with_bytes (blocks_left now.line))
+    (λ now none zero_is. ap (λ (one : Pending). with_bytes (blocks_left one.line)) (removed_none now none))
+    (λ now entry entries is bytes block n fits rest zero_is.
+    ap (λ (one : Pending). with_bytes (blocks_left one.line)) (removed_behind now entry entries is block n fits)
+    ∙ rest (omega (arith, zero_is)) ∙ ap (λ line. with_bytes (blocks_left line)) (behind_is now entry entries is block)
+    ∙ no_byte bytes (blocks_left entries) (omega (arith, fits, zero_is))
+    ∙ ap with_bytes (sym (left_is now entry entries is block)))
+    (λ now entry entries is bytes block n few zero_is.
+    ap (λ (one : Pending). with_bytes (blocks_left one.line)) (removed_in now entry entries is block n few)
+    ∙ ap (λ m. with_bytes (blocks_left (front_skipped m now).line)) zero_is)
+    now.line now refl 0 (omega arith) refl
   where
-    none : ((bytes : List ℕ) → entry.message ≡ Block bytes → ⊥) →
-        with_bytes (blocks_left (removed 0 now).line) ≡ with_bytes (blocks_left (entry ∷ entries))
-    none other =
-        ap (λ (one : Pending). with_bytes (blocks_left one.line))
-        (removed_none now (ap blocks_left is ∙ left_from_other entry entries other))
-        ∙ ap (λ line. with_bytes (blocks_left line)) is
-
     no_byte : (bytes : List ℕ) (blocks : List (List ℕ)) → length bytes ≤ 0 →
         with_bytes blocks ≡ with_bytes (bytes ∷ blocks)
     no_byte [] blocks few = refl
     no_byte (byte ∷ bytes) blocks few = absurd (omega (arith, few))
-
-    by_message : (message : Message) → entry.message ≡ message →
-        with_bytes (blocks_left (removed 0 (sent now)).line) ≡ with_bytes (blocks_left entries) →
-        with_bytes (blocks_left (removed 0 now).line) ≡ with_bytes (blocks_left (entry ∷ entries))
-    by_message (Block bytes) block behind = elim (order (length bytes) 0) [
-      | inl fits ↦
-          let rest : 0 - length bytes ≡ 0 = omega arith in
-          ap (λ (one : Pending). with_bytes (blocks_left one.line)) (removed_behind now entry entries is block 0 fits)
-          ∙ ap (λ n. with_bytes (blocks_left (removed n (sent now)).line)) rest
-          ∙ behind
-          ∙ no_byte bytes (blocks_left entries) fits
-          ∙ ap with_bytes (sym (left_from_block entry entries block))
-      | inr few ↦
-          ap (λ (one : Pending). with_bytes (blocks_left one.line)) (removed_in now entry entries is block 0 few)
-          ∙ ap (λ line. with_bytes (blocks_left line)) is
-    ]
-    by_message (Region units) other behind = none (λ bytes block. let both = sym other ∙ block in absurd (cc))
-    by_message (Other value) other behind = none (λ bytes block. let both = sym other ∙ block in absurd (cc))
 
 -- some of the blocks that hold a byte hold one
 some_bytes : (blocks : List (List ℕ)) (n : ℕ) → 0 < length (take n (with_bytes blocks)) →
@@ -79,7 +58,7 @@ first_offer max_bytes old some = record {
   some = some_bytes (run_of old.unsent) _ some;
   within = omega arith;
   left = λ past. ap (λ blocks. first_blocks most_pieces max_bytes blocks)
-      (sym (nothing_removed (held past).line (held past) refl));
+      (sym (nothing_removed (held past)));
 }
 
 -- bytes of an offer are the first of what is left in front
@@ -137,7 +116,7 @@ left_further old mid a first fits max_bytes taken pieces left =
       within = within;
       left = λ past.
           let there = first past in
-          let turns = in_turns (held past).line (held past) refl a taken within in
+          let turns = in_turns (held past) a taken within in
           left.left there.0
           ∙ ap (λ (one : Pending). first_blocks most_pieces max_bytes (with_bytes (blocks_left one.line)))
           (ap (removed taken) there.1 ∙ turns.state);

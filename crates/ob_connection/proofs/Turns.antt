@@ -1,9 +1,10 @@
 -- Bytes that are removed in several turns are removed as by one.
 use Rattle.ob_connection.proofs.Words.{◌≡◌, ◌≤◌, ◌<◌, ℕ, zero, suc, ◌+◌, ◌-◌, Bool, true, false, List, [], ◌∷◌, ◌++◌, length, take, drop, ltb}
-use Rattle.ob_connection.proofs.Words.{refl, sym, ap, ◌∙◌, arith, nat_tests, Pending, inl, inr, ◌⊎◌, cond, Option, Some, None, if◌then◌else◌}
+use Rattle.ob_connection.proofs.Words.{refl, sym, ap, ◌∙◌, arith, nat_tests, Pending, inl, inr, None, if◌then◌else◌}
 use Rattle.std.specs.List.{concat}
-use Rattle.ob_connection.proofs.Words.{Becomes, Connected, Unsent, held}
+use Rattle.ob_connection.proofs.Words.{Becomes, Connected, Unsent, held, subst}
 use Rattle.std.proofs.Math.Seq.{drop-append-add, take-add}
+use Rattle.std.proofs.lemmas.Bool.{cases_lt}
 use Rattle.std.proofs.lemmas.List.{drop-append-le, drop-drop, length-drop, length-map}
 use Rattle.std.proofs.lemmas.List.Sums.{sum_by-cons}
 use Rattle.ob_types.specs.declared.message.Message.{Message}
@@ -13,7 +14,7 @@ use Rattle.ob_seq.specs.Looks.{PendingEntry, blocks_left}
 use Rattle.ob_seq.specs.Effect.{bytes_in}
 use Rattle.ob_seq.specs.Rows.{without_skipped}
 use Rattle.ob_seq.specs.Steps.Step.{first_changed, front_changed}
-use Rattle.ob_seq.specs.Steps.Commands.{front_taken, bytes_removed, bytes_step, cut_of, front_skipped, skipped_entry}
+use Rattle.ob_seq.specs.Steps.Commands.{front_taken, bytes_removed, bytes_step, front_skipped, skipped_entry}
 use Rattle.ob_seq.specs.Steps.Commands.{whole_cut}
 use Rattle.ob_seq.specs.Unsent.{pending_entries, pending_entry}
 use Rattle.ob_seq.specs.declared.contents.cut.Cut.{Cut}
@@ -55,11 +56,16 @@ removed_none now none =
 
 module _ (now : Pending) (entry : PendingEntry) (entries : List PendingEntry) (is : now.line ≡ entry ∷ entries)
     {bytes : List ℕ} (block : entry.message ≡ Block bytes) where
-  left_is : blocks_left now.line ≡ bytes ∷ blocks_left entries
+  pub left_is : blocks_left now.line ≡ bytes ∷ blocks_left entries
   left_is = ap blocks_left is ∙ left_from_block entry entries block
 
-  behind_is : (sent now).line ≡ entries
+  pub behind_is : (sent now).line ≡ entries
   behind_is = ap (drop 1) is
+
+  pub left_size : bytes_in (blocks_left now.line) ≡ length bytes + bytes_in (blocks_left (sent now).line)
+  left_size =
+      ap bytes_in left_is ∙ sum_by-cons (λ (piece : List ℕ). length piece) bytes (blocks_left entries)
+      ∙ ap (λ line. length bytes + bytes_in (blocks_left line)) (sym behind_is)
 
   -- a removal of a whole block and more
   pub removed_behind : (n : ℕ) → length bytes ≤ n → removed n now ≡ removed (n - length bytes) (sent now)
@@ -132,33 +138,10 @@ skipped_twice (suc a) (suc b) now =
     ∙ ap (λ (line : List PendingEntry). record now { line = line }) (changed_again (suc a) (suc b) now.line)
     ∙ sym (skipping (suc a + suc b) now (omega arith))
 
--- of two numbers one is the greater
-pub order : (m n : ℕ) → (m ≤ n) ⊎ (n < m)
-order zero n = inl (omega arith)
-order (suc m) zero = inr (omega arith)
-order (suc m) (suc n) = elim (order m n) [ inl less ↦ inl (omega (arith, less)) | inr more ↦ inr (omega (arith, more)) ]
-
 -- a removal after another one is as one of all the bytes
 pub record InTurns (a b : ℕ) (now : Pending) : Type 0 where
   pub state : removed b (removed a now) ≡ removed (a + b) now
   pub whole : (cut_at a now).whole + (cut_at b (removed a now)).whole ≡ (cut_at (a + b) now).whole
-
-at_end : (now : Pending) → blocks_left now.line ≡ [] → InTurns 0 0 now
-at_end now none =
-    let same = removed_none now none in
-    let cut : cut_at 0 now ≡ record { whole = 0; rest = 0 } = ap (whole_cut 0) none ∙ cut_at_end 0 in record {
-      state = ap (removed 0) same;
-      whole = omega (
-        arith,
-        ap (λ (one : Cut). one.whole) cut,
-        ap (λ (one : Pending). (cut_at 0 one).whole) same,
-      );
-    }
-
-none_at_end : (now : Pending) → blocks_left now.line ≡ [] → (a b : ℕ) → a + b ≤ 0 → InTurns a b now
-none_at_end now none zero zero within = at_end now none
-none_at_end now none (suc a) b within = absurd (omega (arith, within))
-none_at_end now none zero (suc b) within = absurd (omega (arith, within))
 
 -- if the first of two ends behind the front
 module _ (now : Pending) (entry : PendingEntry) (entries : List PendingEntry) (is : now.line ≡ entry ∷ entries)
@@ -185,8 +168,8 @@ module _ (now : Pending) (entry : PendingEntry) (entries : List PendingEntry) (i
       let first = removed_in now entry entries is block a few in
       let rest = front_skipped a now in
       let left = front_left now entry entries is block a in
-      let size = length-drop a bytes in elim (order (length (drop a bytes)) b) [
-        | inl fits ↦
+      let size = length-drop a bytes in elim (cases_lt b (length (drop a bytes))) [
+        | inr fits ↦
             let second = removed_behind rest left.0 entries left.1.0 left.1.1 b fits in
             let all = removed_behind now entry entries is block (a + b) (omega (arith, few, fits, size)) in
             let same = sent_skipped now entry entries is block a in
@@ -203,7 +186,7 @@ module _ (now : Pending) (entry : PendingEntry) (entries : List PendingEntry) (i
                 ap (λ n. (cut_at n (sent now)).whole) sum,
               );
             }
-        | inr less ↦ record {
+        | inl less ↦ record {
           state = ap (removed b) first ∙ removed_in rest left.0 entries left.1.0 left.1.1 b less ∙ skipped_twice a b now
               ∙ sym (removed_in now entry entries is block (a + b) (omega (arith, few, less, size)));
           whole = omega (
@@ -216,83 +199,75 @@ module _ (now : Pending) (entry : PendingEntry) (entries : List PendingEntry) (i
         }
       ]
 
--- so it is whatever is left in front
-pub in_turns : (line : List PendingEntry) (now : Pending) → now.line ≡ line → (a b : ℕ) →
-    a + b ≤ bytes_in (blocks_left line) → InTurns a b now
-in_turns [] now is a b within = none_at_end now (ap blocks_left is) a b within
-in_turns (entry ∷ entries) now is a b within =
-    by_message entry.message refl (λ n. in_turns entries (sent now) (ap (drop 1) is) n b)
-  where
-    none : ((bytes : List ℕ) → entry.message ≡ Block bytes → ⊥) → InTurns a b now
-    none other =
-        let end = left_from_other entry entries other in
-        none_at_end now (ap blocks_left is ∙ end) a b (rw end at within)
-
-    by_message : (message : Message) → entry.message ≡ message →
-        ((n : ℕ) → n + b ≤ bytes_in (blocks_left entries) → InTurns n b (sent now)) → InTurns a b now
-    by_message (Block bytes) block behind =
-        let all = ap bytes_in (left_from_block entry entries block)
-        ∙ sum_by-cons (λ (piece : List ℕ). length piece) bytes (blocks_left entries) in
-        elim (order (length bytes) a) [
-          | inl fits ↦
-              turns_behind now entry entries is block a b fits
-              (behind (a - length bytes) (omega (arith, all, within, fits)))
-          | inr few ↦ turns_in now entry entries is block a b few
-        ]
-    by_message (Region units) other behind = none (λ bytes block. let both = sym other ∙ block in absurd (cc))
-    by_message (Other value) other behind = none (λ bytes block. let both = sym other ∙ block in absurd (cc))
-
--- what is left in front after a removal is what is behind the bytes that it takes
-pub run_behind : (line : List PendingEntry) (now : Pending) → now.line ≡ line → (n : ℕ) →
-    n ≤ bytes_in (blocks_left line) →
-    concat (blocks_left (removed n now).line) ≡ drop n (concat (blocks_left line))
-run_behind [] now is n within = at_no_byte now [] is n within refl
-  where
-    at_no_byte : (now : Pending) (line : List PendingEntry) → now.line ≡ line → (n : ℕ) →
-        n ≤ bytes_in (blocks_left line) → blocks_left line ≡ [] →
-        concat (blocks_left (removed n now).line) ≡ drop n (concat (blocks_left line))
-    at_no_byte now line is zero within none =
-        ap (λ (one : Pending). concat (blocks_left one.line)) (removed_none now (ap blocks_left is ∙ none))
-        ∙ ap (λ line. concat (blocks_left line)) is
-    at_no_byte now line is (suc n) within none = absurd (omega (arith, ap bytes_in none, within))
-run_behind (entry ∷ entries) now is n within =
-    by_message entry.message refl (λ n. run_behind entries (sent now) (ap (drop 1) is) n)
+-- what is so of a removal of nothing at the end of the blocks in front, of one behind the front if it is so of the rest of it, and
+-- of one that ends in the front, is so of each removal of no more bytes than are left
+pub along_front : (P : Pending → ℕ → Type 0) → ((now : Pending) → blocks_left now.line ≡ [] → P now 0) →
+    ((now : Pending) (entry : PendingEntry) (entries : List PendingEntry) → now.line ≡ entry ∷ entries →
+    (bytes : List ℕ) → entry.message ≡ Block bytes → (n : ℕ) → length bytes ≤ n → P (sent now) (n - length bytes) → P now n) →
+    ((now : Pending) (entry : PendingEntry) (entries : List PendingEntry) → now.line ≡ entry ∷ entries →
+    (bytes : List ℕ) → entry.message ≡ Block bytes → (n : ℕ) → n < length bytes → P now n) →
+    (line : List PendingEntry) (now : Pending) → now.line ≡ line → (n : ℕ) → n ≤ bytes_in (blocks_left line) → P now n
+along_front P end behind inside [] now is zero within = end now (ap blocks_left is)
+along_front P end behind inside [] now is (suc n) within = absurd (omega (arith, within))
+along_front P end behind inside (entry ∷ entries) now is n within =
+    by_message entry.message refl (λ n. along_front P end behind inside entries (sent now) (ap (drop 1) is) n)
   where
     none : ((bytes : List ℕ) → entry.message ≡ Block bytes → ⊥) → (n : ℕ) →
-        n ≤ bytes_in (blocks_left (entry ∷ entries)) →
-        concat (blocks_left (removed n now).line) ≡ drop n (concat (blocks_left (entry ∷ entries)))
-    none other zero within =
-        let end = left_from_other entry entries other in
-        ap (λ (one : Pending). concat (blocks_left one.line)) (removed_none now (ap blocks_left is ∙ end))
-        ∙ ap (λ line. concat (blocks_left line)) is
-    none other (suc n) within =
-        let end = left_from_other entry entries other in absurd (omega (arith, ap bytes_in end, within))
+        n ≤ bytes_in (blocks_left (entry ∷ entries)) → P now n
+    none other zero within = end now (ap blocks_left is ∙ left_from_other entry entries other)
+    none other (suc n) within = absurd (omega (arith, ap bytes_in (left_from_other entry entries other), within))
 
     by_message : (message : Message) → entry.message ≡ message →
-        ((n : ℕ) → n ≤ bytes_in (blocks_left entries) →
-        concat (blocks_left (removed n (sent now)).line) ≡ drop n (concat (blocks_left entries))) →
-        concat (blocks_left (removed n now).line) ≡ drop n (concat (blocks_left (entry ∷ entries)))
-    by_message (Block bytes) block behind =
-        let run = left_from_block entry entries block in
-        let all = ap bytes_in run ∙ sum_by-cons (λ (piece : List ℕ). length piece) bytes (blocks_left entries) in
-        elim (order (length bytes) n) [
-          | inl fits ↦
-              let sum : length bytes + (n - length bytes) ≡ n = omega (arith, fits) in
-              ap (λ (one : Pending). concat (blocks_left one.line)) (removed_behind now entry entries is block n fits)
-              ∙ behind (n - length bytes) (omega (arith, all, within, fits))
-              ∙ sym (drop-append-add bytes (concat (blocks_left entries)) (n - length bytes))
-              ∙ ap (λ m. drop m (bytes ++ concat (blocks_left entries))) sum
-              ∙ ap (λ pieces. drop n (concat pieces)) (sym run)
-          | inr few ↦
-              let left = front_left now entry entries is block n in
-              ap (λ (one : Pending). concat (blocks_left one.line)) (removed_in now entry entries is block n few)
-              ∙ ap (λ line. concat (blocks_left line)) left.1.0
-              ∙ ap concat (left_from_block left.0 entries left.1.1)
-              ∙ sym (drop-append-le n bytes (concat (blocks_left entries)) (omega (arith, few)))
-              ∙ ap (λ pieces. drop n (concat pieces)) (sym run)
+        ((n : ℕ) → n ≤ bytes_in (blocks_left entries) → P (sent now) n) → P now n
+    by_message (Block bytes) block rest =
+        let all = ap bytes_in (left_from_block entry entries block)
+        ∙ sum_by-cons (λ (piece : List ℕ). length piece) bytes (blocks_left entries) in
+        elim (cases_lt n (length bytes)) [
+          | inr fits ↦ behind now entry entries is bytes block n fits (rest (n - length bytes) (omega (arith, all, within, fits)))
+          | inl few ↦ inside now entry entries is bytes block n few
         ]
-    by_message (Region units) other behind = none (λ bytes block. let both = sym other ∙ block in absurd (cc)) n within
-    by_message (Other value) other behind = none (λ bytes block. let both = sym other ∙ block in absurd (cc)) n within
+    by_message (Region units) other rest = none (λ bytes block. let both = sym other ∙ block in absurd (cc)) n within
+    by_message (Other value) other rest = none (λ bytes block. let both = sym other ∙ block in absurd (cc)) n within
+
+-- so two removals are as one
+pub in_turns : (now : Pending) (a b : ℕ) → a + b ≤ bytes_in (blocks_left now.line) → InTurns a b now
+in_turns now a b within =
+    along_front (λ now a. (b : ℕ) → a + b ≤ bytes_in (blocks_left now.line) → InTurns a b now)
+    (λ now none b within.
+    let same = removed_none now none in
+    let cut : cut_at 0 now ≡ record { whole = 0; rest = 0 } = ap (whole_cut 0) none ∙ cut_at_end 0 in
+    let nothing : 0 ≡ b = omega (arith, within, ap bytes_in none) in
+    subst (λ n. InTurns 0 n now) nothing (record {
+      state = ap (removed 0) same;
+      whole = omega (arith, ap (λ (one : Cut). one.whole) cut, ap (λ (one : Pending). (cut_at 0 one).whole) same);
+    }))
+    (λ now entry entries is bytes block a fits rest b within.
+    let size = left_size now entry entries is block in
+    turns_behind now entry entries is block a b fits (rest b (omega (arith, within, fits, size))))
+    (λ now entry entries is bytes block a few b within. turns_in now entry entries is block a b few)
+    now.line now refl a (omega (arith, within)) b within
+
+-- what is left in front after a removal is what is behind the bytes that it takes
+pub run_behind : (now : Pending) (n : ℕ) → n ≤ bytes_in (blocks_left now.line) →
+    concat (blocks_left (removed n now).line) ≡ drop n (concat (blocks_left now.line))
+run_behind now n within =
+    along_front (λ now n. concat (blocks_left (removed n now).line) ≡ drop n (concat (blocks_left now.line)))
+    (λ now none. ap (λ (one : Pending). concat (blocks_left one.line)) (removed_none now none))
+    (λ now entry entries is bytes block n fits rest.
+    let sum : length bytes + (n - length bytes) ≡ n = omega (arith, fits) in
+    ap (λ (one : Pending). concat (blocks_left one.line)) (removed_behind now entry entries is block n fits)
+    ∙ rest ∙ ap (λ line. drop (n - length bytes) (concat (blocks_left line))) (behind_is now entry entries is block)
+    ∙ sym (drop-append-add bytes (concat (blocks_left entries)) (n - length bytes))
+    ∙ ap (λ m. drop m (bytes ++ concat (blocks_left entries))) sum
+    ∙ ap (λ pieces. drop n (concat pieces)) (sym (left_is now entry entries is block)))
+    (λ now entry entries is bytes block n few.
+    let left = front_left now entry entries is block n in
+    ap (λ (one : Pending). concat (blocks_left one.line)) (removed_in now entry entries is block n few)
+    ∙ ap (λ line. concat (blocks_left line)) left.1.0
+    ∙ ap concat (left_from_block left.0 entries left.1.1)
+    ∙ sym (drop-append-le n bytes (concat (blocks_left entries)) (omega (arith, few)))
+    ∙ ap (λ pieces. drop n (concat pieces)) (sym (left_is now entry entries is block)))
+    now.line now refl n within
 
 -- a removal of no more bytes than are left is not refused
 pub not_too_many : (n : ℕ) (now : Pending) → n ≤ bytes_in (blocks_left now.line) → (bytes_step n now).refusal ≡ None
@@ -321,7 +296,7 @@ module _ (old mid : Connected) (a : ℕ) (first : Becomes (removed a) old mid) (
     run_mid =
         let past = some_past old in
         ap (λ (one : Pending). concat (blocks_left one.line)) (first past).1
-        ∙ run_behind (held past).line (held past) refl a fits
+        ∙ run_behind (held past) a fits
 
     pub within_both : (b : ℕ) → b ≤ bytes_in (run_of mid.unsent) → a + b ≤ bytes_in (run_of old.unsent)
     within_both b more =
@@ -344,7 +319,7 @@ module _ (old mid : Connected) (a : ℕ) (first : Becomes (removed a) old mid) (
         both_become past =
             let one = first past in
             let two = second one.0 in
-            let turns = in_turns (held past).line (held past) refl a b both_within in
+            let turns = in_turns (held past) a b both_within in
             (two.0, two.1 ∙ ap (removed b) one.1 ∙ turns.state)
 
         pub both_whole :
@@ -352,7 +327,7 @@ module _ (old mid : Connected) (a : ℕ) (first : Becomes (removed a) old mid) (
             ≡ (whole_cut (a + b) (run_of old.unsent)).whole
         both_whole =
             let past = some_past old in
-            let turns = in_turns (held past).line (held past) refl a b both_within in
+            let turns = in_turns (held past) a b both_within in
             ap (λ (one : Pending). (cut_at a (held past)).whole + (cut_at b one).whole) (first past).1 ∙ turns.whole
 
         pub both_sent :

@@ -47,6 +47,12 @@ status_of gone id (Some StillWaiting) = Some Waiting
 status_of gone id (Some IsFixed) = Some Fixed
 status_of gone id (Some (IsSettled outcome)) = if nat_lt id gone then Some SettledBefore else Some (Settled outcome)
 
+-- what is reported of the promise of a message that waits
+abbrev pub waiting_status : PromiseState → Status
+waiting_status StillWaiting = Waiting
+waiting_status IsFixed = Fixed
+waiting_status (IsSettled outcome) = Settled outcome
+
 -- whatever history the connection stands for, this is what is reported of the promise after it
 abbrev pub Tells : Connected → ℕ → Option Status → Type 0
 Tells connection id status =

@@ -5,11 +5,11 @@ ghost use Rattle.ob_connection.specs.Connected.{Connected, accepted_writes, most
 ghost use Rattle.ob_connection.specs.Connected.{roomed};
 ghost use Rattle.ob_connection.specs.Inside.{connected_of, HasIds};
 
-mod commands;
 pub mod offer;
+mod remove;
 mod take;
 mod turns;
-mod write;
+pub mod write;
 
 use crate::chunk::Chunks;
 use ob_seq::Contents;

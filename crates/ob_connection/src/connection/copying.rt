@@ -54,7 +54,11 @@ impl Connection {
             → Refuses self.now (Write (Block bytes)) (Some result) }
         ensures other { ¬ (result ≡ Refusal.NoMemory) }
     {
-        self.inner.refusal_of_too_long()
+        if self.is_closed() {
+            Refusal::Closed
+        } else {
+            Refusal::Oversize
+        }
     }
 
     /// Writes a block, which is let go if it is refused.

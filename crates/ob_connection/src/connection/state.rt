@@ -9,9 +9,10 @@ ghost use Rattle.ob_connection.specs.Looks.{Refuses, Shows, Tells, unflushed_cou
 ghost use Rattle.ob_seq.specs.State.{writable_after, empty_after, closed_after};
 
 use crate::connection::Connection;
+use crate::inner::write::MAX_WRITES;
 use crate::look::Look;
 use crate::status::Status;
-use ob_types::{Estimate, PromiseState, Refusal, WaterMark};
+use ob_types::{Estimate, Refusal, WaterMark, pending_size_of_length};
 
 impl Connection {
     /// What is pending now. It changes nothing, takes the same few steps whatever is pending, and does not allocate.
@@ -105,7 +106,11 @@ impl Connection {
         ensures first { (bytes : List ℕ) → length bytes ≡ n → Refuses self.now (Write (Block bytes)) result }
         ensures other { ¬ (result ≡ Some Refusal.NoMemory) }
     {
-        self.inner.refusal_of_length(n)
+        let size = pending_size_of_length(n as u64, self.inner.contents.estimate());
+        self.inner
+            .contents
+            .admits(size, self.inner.accepted_writes(), MAX_WRITES)
+            .err()
     }
 
     /// What has become of a promise, or nothing if no write was accepted under the id. It takes the same few steps
@@ -120,10 +125,6 @@ impl Connection {
             return Some(Status::SettledBefore);
         }
         let place = (id - self.inner.gone()) as usize;
-        Some(match self.inner.contents().state_at(place) {
-            PromiseState::Waiting => Status::Waiting,
-            PromiseState::Fixed => Status::Fixed,
-            PromiseState::Settled(outcome) => Status::Settled(outcome),
-        })
+        Some(Status::of(self.inner.contents().state_at(place)))
     }
 }

@@ -12,40 +12,16 @@ use crate::inner::Inner;
 use crate::refused::Refused;
 use crate::replies::Written;
 use bytes::Bytes;
-use ob_types::{Message, Refusal, pending_size, pending_size_of_length};
+use ob_types::{Message, Refusal, pending_size};
 use std::alloc::AllocError;
 
 /// How many messages wait at least when the next one shares a chunk.
 const SHARING: usize = 4;
 
 /// The most writes that a connection accepts.
-const MAX_WRITES: u64 = 18446744073709551615;
+pub const MAX_WRITES: u64 = 18446744073709551615;
 
 impl Inner {
-    /// As `Connection::refusal_of_length`.
-    pub fn refusal_of_length(&self, count: usize) -> Option<Refusal>
-        ensures first { (bytes : List ℕ) → length bytes ≡ count → IsFirstRefusal self.now (Write (Block bytes)) result }
-        ensures other { ¬ (result ≡ Some Refusal.NoMemory) }
-    {
-        let size = pending_size_of_length(count as u64, self.contents.estimate());
-        self.contents
-            .admits(size, self.accepted_writes(), MAX_WRITES)
-            .err()
-    }
-
-    /// Why a block is refused that is longer than any message may be.
-    pub fn refusal_of_too_long(&self) -> Refusal
-        ensures first { (bytes : List ℕ) → greatest_pending_size < length bytes
-            → IsFirstRefusal self.now (Write (Block bytes)) (Some result) }
-        ensures other { ¬ (result ≡ Refusal.NoMemory) }
-    {
-        if self.contents.is_closed() {
-            Refusal::Closed
-        } else {
-            Refusal::Oversize
-        }
-    }
-
     /// A copy of these bytes as a block, for a message that is to be written. Few that wait share no chunk: they would pay
     /// for one.
     pub fn copy(&mut self, bytes: &[u8]) -> Result<Bytes, AllocError>

@@ -1,4 +1,3 @@
-use Rattle.ob_connection.proofs.Words.{sym, ◌∙◌, subst, StandsFor}
 use Rattle.ob_connection.proofs.GivingUp.{gives_up, still_stands}
 use Rattle.ob_connection.proofs.connection.Connection.give_up.Goals as goal
 

@@ -9,8 +9,7 @@ use Rattle.ob_seq.specs.Effect.{rows_after}
 use Rattle.ob_seq.specs.Looks.{promise_after}
 use Rattle.ob_seq.specs.Steps.Step.{state_at}
 use Rattle.ob_seq.proofs.Inside.Held.{promise_of}
-use Rattle.ob_connection.specs.Looks.{status_of}
-use Rattle.ob_connection.specs.declared.status.Status.{Status}
+use Rattle.ob_connection.specs.Looks.{status_of, waiting_status}
 use Rattle.ob_connection.specs.declared.status.Status.TheVariants.{SettledBefore}
 use Rattle.ob_connection.proofs.Kept.{ids_are}
 use Rattle.ob_connection.proofs.connection.Connection.promise.Goals as goal
@@ -37,31 +36,25 @@ before gone id state outcome is early =
     rw (is, test) refl
 
 -- one that is not is reported by its state
-abbrev late_status : PromiseState → Status
-late_status Waiting = Rattle.ob_connection.specs.declared.status.Status.TheVariants.Waiting
-late_status Fixed = Rattle.ob_connection.specs.declared.status.Status.TheVariants.Fixed
-late_status (Settled outcome) = Rattle.ob_connection.specs.declared.status.Status.TheVariants.Settled outcome
-
 behind : (gone id : ℕ) → gone ≤ id → (state : PromiseState) →
-    Some (late_status state) ≡ status_of gone id (Some state)
+    Some (waiting_status state) ≡ status_of gone id (Some state)
 behind gone id late Waiting = refl
 behind gone id late Fixed = refl
 behind gone id late (Settled outcome) = let test : ltb id gone ≡ false = grind (arith, nat_tests) in rw test refl
 
 -- the promise of a message that waits, by the state that is found at its place
-told_late : (inner : Connected) {unsent : Unsent} {first count : ℕ} (id : ℕ) {state named : PromiseState} →
-    named ≡ state → first ≡ inner.gone → inner.gone ≤ id → count ≡ accepted_writes inner → id < count →
+told_late : (inner : Connected) {unsent : Unsent} {first count : ℕ} (id : ℕ) {state : PromiseState} → first ≡ inner.gone → inner.gone ≤ id → count ≡ accepted_writes inner → id < count →
     unsent ≡ inner.unsent →
     ((gone : List Outcome) → state ≡ state_at (whole gone unsent) (length gone + (id - first))) →
     (commands : List Command) → StandsFor inner commands →
-    Some (late_status named)
+    Some (waiting_status state)
     ≡ status_of inner.gone id (promise_after inner.unsent.settings commands (record { 0 = id }))
-told_late inner {unsent} {first} id {state} same begins late all within there is commands stands =
+told_late inner {unsent} {first} id {state} begins late all within there is commands stands =
     let past : Past inner = record { outcomes = stands.past; count = stands.forgotten } in
     let here : length stands.past + (id - first) ≡ id = omega (arith, stands.forgotten, begins, late) in
     let few : id < length (held past).promises = omega (arith, ids_are past, all, within) in
-    ap (λ one. Some (late_status one))
-    (same ∙ is stands.past
+    ap (λ one. Some (waiting_status one))
+    (is stands.past
     ∙ ap (λ (one : Unsent). state_at (whole stands.past one) (length stands.past + (id - first))) there
     ∙ ap (state_at (held past)) here)
     ∙ behind inner.gone id late (state_at (held past) id)
@@ -78,20 +71,7 @@ returns-then-id-gone c = rw (← c.self.view_is) (λ commands stands.
     before c.self.inside.inner.gone c.args.id (state_at now c.args.id) settled.0 settled.1 early
     ∙ sym (told c.self.inside.inner.gone c.args.id now commands stands.leaves within))
 
-pub returns-in-Waiting : goal.returns-in-Waiting
-returns-in-Waiting c =
-    rw (← c.self.view_is) (told_late c.self.inside.inner c.args.id (sym c.in-Waiting.is) c.gone-2.ensures
-    (omega (arith, c.gone.ensures, c.if-id-gone.false)) c.accepted_writes.ensures.count
-    (omega (arith, c.if-id-accepted_writes.false)) c.contents.ensures c.state_at.ensures)
-
-pub returns-in-Fixed : goal.returns-in-Fixed
-returns-in-Fixed c =
-    rw (← c.self.view_is) (told_late c.self.inside.inner c.args.id (sym c.in-Fixed.is) c.gone-2.ensures
-    (omega (arith, c.gone.ensures, c.if-id-gone.false)) c.accepted_writes.ensures.count
-    (omega (arith, c.if-id-accepted_writes.false)) c.contents.ensures c.state_at.ensures)
-
-pub returns-in-Settled : goal.returns-in-Settled
-returns-in-Settled c =
-    rw (← c.self.view_is) (told_late c.self.inside.inner c.args.id (sym c.in-Settled.is) c.gone-2.ensures
-    (omega (arith, c.gone.ensures, c.if-id-gone.false)) c.accepted_writes.ensures.count
-    (omega (arith, c.if-id-accepted_writes.false)) c.contents.ensures c.state_at.ensures)
+pub returns : goal.returns
+returns c = rw (← c.self.view_is, c.of.ensures)
+    (told_late c.self.inside.inner c.args.id c.gone-2.ensures (omega (arith, c.gone.ensures, c.if-id-gone.false))
+    c.accepted_writes.ensures.count (omega (arith, c.if-id-accepted_writes.false)) c.contents.ensures c.state_at.ensures)

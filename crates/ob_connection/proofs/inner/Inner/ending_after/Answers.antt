@@ -3,10 +3,10 @@ use Rattle.ob_connection.specs.Calls.{answers_in}
 use Rattle.ob_connection.specs.Offering.{answer_of}
 use Rattle.ob_connection.specs.Sending.{EndsWithin}
 use Rattle.ob_connection.specs.declared.ending.Ending.{Ending}
-use Rattle.ob_connection.specs.declared.ending.Ending.TheVariants.{Drained, Blocked, OtherInFront, TurnsUsed, Broken}
+use Rattle.ob_connection.specs.declared.ending.Ending.TheVariants.{Blocked, Broken}
 use Rattle.ob_connection.specs.declared.inner.offer.Offer.{Offer}
 use Rattle.ob_connection.specs.declared.inner.offer.Offer.TheVariants.{Took}
-use Rattle.ob_connection.proofs.Answered.{none_took, one_took, stopped_at_once}
+use Rattle.ob_connection.proofs.Answered.{stopped_at_once}
 use Rattle.ob_connection.proofs.inner.Inner.ending_after.Goals as goal
 
 -- an ending by the offer that it is given

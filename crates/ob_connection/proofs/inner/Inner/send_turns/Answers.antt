@@ -8,7 +8,7 @@ use Rattle.ob_connection.specs.Becoming.{removed}
 use Rattle.ob_connection.specs.Offering.{IsLeft, run_of}
 use Rattle.ob_connection.specs.Obeying.{taken_reply}
 use Rattle.ob_connection.specs.Calls.{with_more}
-use Rattle.ob_connection.proofs.Answered.{asks_all, asks_more, asks_within}
+use Rattle.ob_connection.proofs.Answered.{asks_more}
 use Rattle.ob_connection.proofs.Kept.{same_change}
 use Rattle.ob_connection.proofs.Making.{taken}
 use Rattle.ob_connection.proofs.Offered.{taken_twice}

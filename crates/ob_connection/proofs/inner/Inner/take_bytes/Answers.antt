@@ -1,5 +1,4 @@
 use Rattle.ob_connection.proofs.Words.{[], ◌≡◌, ap, ◌∙◌, held, whole, Connected}
-use Rattle.ob_seq.specs.Effect.{bytes_in}
 use Rattle.ob_seq.specs.Steps.Commands.{bytes_removed, whole_cut}
 use Rattle.ob_seq.specs.declared.contents.cut.Cut.{Cut}
 use Rattle.ob_connection.specs.Offering.{run_of}

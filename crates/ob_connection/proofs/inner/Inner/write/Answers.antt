@@ -4,7 +4,7 @@ use Rattle.ob_types.specs.PendingSize.{pending_size_of}
 use Rattle.ob_types.specs.declared.command.Command.TheVariants.{Write}
 use Rattle.ob_types.specs.declared.estimate.Estimate.{Estimate}
 use Rattle.ob_seq.specs.Steps.Commands.{write_step_within}
-use Rattle.ob_seq.proofs.Inside.Admitted.{few, light, refusal_other, write_made, write_wanting}
+use Rattle.ob_seq.proofs.Inside.Admitted.{few, refusal_other, write_made, write_wanting}
 use Rattle.ob_connection.specs.Obeying.{written_reply}
 use Rattle.ob_connection.proofs.Asking.{asked_held, first_there, ids_there}
 use Rattle.ob_seq.proofs.Inside.Rooms.{added_waiting}

@@ -1,4 +1,4 @@
-use Rattle.ob_seq.proofs.Words.{◌≡◌, ◌<◌, length, refl, ap, ◌∙◌, arith, nat_tests, pending_entry, Pending, Outcome, cond}
+use Rattle.ob_seq.proofs.Words.{◌≡◌, ◌<◌, length, ap, ◌∙◌, arith, nat_tests, pending_entry, Pending, Outcome, cond}
 use Rattle.ob_seq.specs.Steps.Commands.{removal_step}
 use Rattle.ob_seq.specs.Steps.Step.{is_first_voided, settled_open}
 use Rattle.ob_seq.proofs.Inside.Leaving.{no_entry}

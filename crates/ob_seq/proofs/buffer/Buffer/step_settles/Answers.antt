@@ -1,4 +1,4 @@
-use Rattle.ob_seq.proofs.Words.{◌≡◌, false, length, sym, ap, ◌∙◌, arith, take_all, Failed, failing_step, front_id, Pending}
+use Rattle.ob_seq.proofs.Words.{◌≡◌, false, sym, ap, ◌∙◌, arith, take_all, Failed, failing_step, front_id, Pending}
 use Rattle.ob_seq.proofs.Inside.EntrySettlements.{count_of_settlements}
 use Rattle.ob_seq.proofs.Inside.Rooms.{line_there}
 use Rattle.ob_seq.proofs.Simulating.Simulation.{settled_where_open}

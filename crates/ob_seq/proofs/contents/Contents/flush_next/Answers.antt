@@ -1,9 +1,5 @@
-use Rattle.ob_seq.proofs.Words.{◌≡◌, ◌<◌, ◌+◌, length, sym, ap, ◌∙◌, arith, Settings, Entry}
-use Rattle.ob_seq.proofs.Words.{refl, whole, next_flushed, Unsent, ℕ, PendingEntry}
-use Rattle.std.proofs.lemmas.List.{drop-set-lt}
-use Rattle.std.proofs.lemmas.List.Sums.{sum_by-set}
-use Rattle.ob_seq.proofs.Inside.Entries.{behind_not_back}
-use Rattle.std.proofs.lemmas.Grind.{common_steps}
+use Rattle.ob_seq.proofs.Words.{◌<◌, length, sym, ap, ◌∙◌, arith, Settings, Entry}
+use Rattle.ob_seq.proofs.Words.{refl, whole, next_flushed, Unsent}
 use Rattle.ob_seq.proofs.Inside.Fields.{unflushed_count}
 use Rattle.ob_seq.proofs.Inside.States.{kept_fixed, kept_next, same_read}
 use Rattle.ob_seq.proofs.contents.Contents.flush_next.Goals as goal

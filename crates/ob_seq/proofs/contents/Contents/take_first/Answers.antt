@@ -1,4 +1,4 @@
-use Rattle.ob_seq.proofs.Words.{[], ◌≡◌, ◌++◌, ◌<◌, List, length, refl, sym, ap, ◌∙◌, arith, append-nil, map, take, times}
+use Rattle.ob_seq.proofs.Words.{[], ◌≡◌, ◌++◌, ◌<◌, List, length, sym, ap, ◌∙◌, arith, map, take, times}
 use Rattle.ob_seq.proofs.Words.{Cancelled, Success, Outcome, Pending, ended, front_taken, if◌then◌else◌, length-map, pending_entries, pending_entry, whole}
 use Rattle.std.proofs.Common.{add-one}
 use Rattle.std.proofs.lemmas.List.{length-drop, length-take-le}

@@ -1,7 +1,7 @@
 use Rattle.ob_seq.proofs.Words.{◌≡◌, sym, Success, ◌++◌, ◌∷◌, [], length, refl, ap, ◌∙◌, arith}
 use Rattle.std.proofs.Common.{rules}
 use Rattle.std.proofs.lemmas.List.FromFn.{length-map-range_with_len}
-use Rattle.ob_seq.proofs.Inside.Runs.{told_on, told_anew, rise_more, begun_more, differ_more, last_more}
+use Rattle.ob_seq.proofs.Inside.Runs.{told_on, told_anew, rise_more, begun_more, differ_more}
 use Rattle.ob_seq.specs.Outcomes.{Endings, outcome_at, outcome_before}
 use Rattle.ob_seq.proofs.outcomes.Outcomes.push.Goals as goal
 

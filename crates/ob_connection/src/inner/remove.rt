@@ -1,4 +1,4 @@
-//! Calls that take one message away or none, but for a write.
+//! The call that takes one message away.
 
 ghost use Rattle.std.specs.Prelude.{IsErrOf};
 ghost use Rattle.ob_types.specs.declared.command.Command.TheVariants.{Cancel, Flush, Progress, SetMarks, UserBit};
@@ -34,5 +34,4 @@ impl Inner {
             change: front.change,
         })
     }
-
 }
