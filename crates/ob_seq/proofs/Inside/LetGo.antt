@@ -7,6 +7,8 @@ use Rattle.ob_seq.proofs.Words.{front_taken, ltb, pending_entry, times, unreache
 use Rattle.std.specs.Prelude.{Ok}
 use Rattle.ob_types.specs.declared.refusal.Refusal.TheVariants.{FlushedLeft}
 use Rattle.ob_seq.specs.Steps.Commands.{bytes_removed, bytes_reply, bytes_step, closing_step}
+use Rattle.ob_seq.specs.Kept.{LetsGo}
+use Rattle.ob_seq.specs.Outcomes.{Endings}
 use Rattle.ob_seq.specs.Steps.Step.{Makes}
 use Rattle.ob_seq.specs.Steps.Within.{TakesCut, TakesFirst}
 use Rattle.ob_seq.specs.Unsent.{all_entries}
@@ -76,44 +78,46 @@ module _ (gone : List Outcome) (old : Unsent) where
       ap (λ some. whole some new)
       (ends ∙ ap (λ more. gone ++ more) (first_in_line outcome count old.line old.unflushed few))
 
-  module _ (new : Unsent) (unclosed : old.closed ≡ false) {left : List Outcome} {settled : List (PromiseId × Outcome)} where
-    pub fails : (cause : Cause) (notice : Bool) {count : ℕ} → count ≡ length old.line →
-        settled ≡ entry_settlements (Failed cause) (length gone) (take count (all_entries old)) →
-        left ≡ gone ++ map (ended (Failed cause)) (take count (old.line ++ old.unflushed)) →
-        TakesFirst count notice old new →
-        Makes now (failing_step cause notice now)
-        (Ok (reply_from (Count count) settled (change_between old.word new.word))) (whole left new)
-    fails cause notice all is ends takes =
-        let seen = all ∙ sym (length-map old.line pending_entry) in
-        let after = left_in_line new (Failed cause) (omega (arith, all)) ends ∙ takes.taken gone (Failed cause)
-        ∙ ap (λ n. times n (front_taken notice (Failed cause)) now) seen in
-        makes_taken now (failing_step cause notice now) _ (whole left new) unclosed refl
-        (same_reply (ap Count seen) (is ∙ failing_settles cause notice all)
-        (ap (λ (one : Pending). change_between old.word one.word) after)) after
+-- so the step is made
+module _ (gone left : Endings) (old new : Unsent) (unclosed : old.closed ≡ false) {settled : List (PromiseId × Outcome)} where
+  pub fails : (cause : Cause) (notice : Bool) {count : ℕ} → count ≡ length old.line →
+      LetsGo (Failed cause) count old gone (Ok settled) left → TakesFirst count notice old new →
+      Makes (whole gone.list old) (failing_step cause notice (whole gone.list old))
+      (Ok (reply_from (Count count) settled (change_between old.word new.word))) (whole left.list new)
+  fails cause notice all goes takes =
+      let held = whole gone.list old in
+      let seen = all ∙ sym (length-map old.line pending_entry) in
+      let after = left_in_line gone.list old new (Failed cause) (omega (arith, all)) goes.list ∙ takes.taken gone.list (Failed cause)
+      ∙ ap (λ n. times n (front_taken notice (Failed cause)) held) seen in
+      makes_taken held (failing_step cause notice held) _ (whole left.list new) unclosed refl
+      (same_reply (ap Count seen) (goes.settled ∙ failing_settles gone.list old cause notice all)
+      (ap (λ (one : Pending). change_between old.word one.word) after)) after
 
-    pub removes_bytes : (n : ℕ) {cut : Cut} → Some cut ≡ cut_of n (blocks_left now.line) → cut.whole ≤ length old.line →
-        settled ≡ entry_settlements Success (length gone) (take cut.whole (all_entries old)) →
-        left ≡ gone ++ map (ended Success) (take cut.whole (old.line ++ old.unflushed)) → TakesCut cut old new →
-        Makes now (bytes_step n now) (Ok (reply_from (Count cut.whole) settled (change_between old.word new.word)))
-        (whole left new)
-    removes_bytes n found few is ends takes =
-        let there = a_cut n now found in
-        let after = left_in_line new Success few ends ∙ takes.taken gone ∙ ap (λ (one : Cut). bytes_removed one now) there.1 in
-        makes_taken now (bytes_step n now) _ (whole left new) unclosed there.0
-        (same_reply (ap (λ (one : Cut). Count one.whole) there.1) (is ∙ removal_settles n found few)
-        (ap (λ (one : Pending). change_between old.word one.word) after)) after
+  pub removes_bytes : (n : ℕ) {cut : Cut} → Some cut ≡ cut_of n (blocks_left (whole gone.list old).line) →
+      cut.whole ≤ length old.line → LetsGo Success cut.whole old gone (Ok settled) left → TakesCut cut old new →
+      Makes (whole gone.list old) (bytes_step n (whole gone.list old))
+      (Ok (reply_from (Count cut.whole) settled (change_between old.word new.word))) (whole left.list new)
+  removes_bytes n found few goes takes =
+      let held = whole gone.list old in
+      let there = a_cut n held found in
+      let after = left_in_line gone.list old new Success few goes.list ∙ takes.taken gone.list
+      ∙ ap (λ (one : Cut). bytes_removed one held) there.1 in
+      makes_taken held (bytes_step n held) _ (whole left.list new) unclosed there.0
+      (same_reply (ap (λ (one : Cut). Count one.whole) there.1) (goes.settled ∙ removal_settles gone.list old n found few)
+      (ap (λ (one : Pending). change_between old.word one.word) after)) after
 
-    pub closes : (cause : Cause) {count : ℕ} → length old.line ≡ 0 → count ≡ waiting_count old →
-        settled ≡ entry_settlements (Failed cause) (length gone) (take count (all_entries old)) →
-        left ≡ gone ++ map (ended (Failed cause)) (take count (old.line ++ old.unflushed)) →
-        ((gone : List Outcome) (cause : Cause) →
-        whole (gone ++ map (ended (Failed cause)) old.unflushed) new ≡ closed_pending cause (whole gone old)) →
-        Makes now (closing_step cause now) (Ok (reply_from (Count count) settled None)) (whole left new)
-    closes cause {count} none all is ends closed =
-        makes_taken now (closing_step cause now) _ (whole left new) unclosed
-        (none_left cause now (length-map old.line pending_entry ∙ none))
-        (same_reply (ap Count (omega (arith, all, none, length-map old.unflushed unreached_entry)))
-        (is ∙ closing_settles cause none all) (sym (nothing_turned old.word)))
-        (ap (λ some. whole some new)
-        (ends ∙ ap (λ more. gone ++ more) (all_unflushed (Failed cause) count old.line old.unflushed none all))
-        ∙ closed gone cause)
+  pub closes : (cause : Cause) {count : ℕ} → length old.line ≡ 0 → count ≡ waiting_count old →
+      LetsGo (Failed cause) count old gone (Ok settled) left →
+      ((gone : List Outcome) (cause : Cause) →
+      whole (gone ++ map (ended (Failed cause)) old.unflushed) new ≡ closed_pending cause (whole gone old)) →
+      Makes (whole gone.list old) (closing_step cause (whole gone.list old)) (Ok (reply_from (Count count) settled None))
+      (whole left.list new)
+  closes cause {count} none all goes closed =
+      let held = whole gone.list old in
+      makes_taken held (closing_step cause held) _ (whole left.list new) unclosed
+      (none_left cause held (length-map old.line pending_entry ∙ none))
+      (same_reply (ap Count (omega (arith, all, none, length-map old.unflushed unreached_entry)))
+      (goes.settled ∙ closing_settles gone.list old cause none all) (sym (nothing_turned old.word)))
+      (ap (λ some. whole some new) (goes.list
+      ∙ ap (λ more. gone.list ++ more) (all_unflushed (Failed cause) count old.line old.unflushed none all))
+      ∙ closed gone.list cause)

@@ -1,11 +1,11 @@
 -- A call that makes the step of its command keeps what every call keeps, and obeys the command.
 use Rattle.ob_seq.proofs.Words.{◌≡◌, ◌≤◌, ℕ, List, length, refl, arith, false, true, None, SparesMemory, Command, Outcome, Pending, PromiseState, Refusal, Reply, Unsent}
-use Rattle.ob_seq.proofs.Words.{whole, step_of, Success, Failed, Cancelled, Some}
-use Rattle.std.specs.Prelude.{Result, Err}
+use Rattle.ob_seq.proofs.Words.{◌+◌, PromiseId, waiting_count, whole, step_of, Success, Failed, Cancelled, Some}
+use Rattle.std.specs.Prelude.{Result, Ok, Err}
 use Rattle.ob_types.specs.Limits.{inline_settlements}
 use Rattle.ob_types.specs.declared.refusal.Refusal.TheVariants.{NoMemory}
 use Rattle.ob_seq.specs.Answer.{told_by}
-use Rattle.ob_seq.specs.Kept.{IsKept, removal}
+use Rattle.ob_seq.specs.Kept.{IsKept, LetsGo, removal}
 use Rattle.ob_seq.specs.Outcomes.{Endings}
 use Rattle.ob_seq.specs.Pending.{Obeys}
 use Rattle.ob_seq.specs.Steps.Commands.{removal_step}
@@ -27,6 +27,18 @@ module _ (command : Command) {A : Type 0} {tell : List PromiseState → A → Re
   pub obeyed : (gone : List Outcome) {now : Pending} {told : Result Reply Refusal} → whole gone old ≡ now →
       told ≡ told_by (tell (whole gone old).promises) result → Obeys now command told (whole gone new)
   obeyed gone view same = rw same (obeys command (whole gone old) (steps.makes gone) view)
+
+-- one that lets as many go as fewer wait
+pub kept_fewer : (command : Command) {gone left : Endings} {old new : Unsent} {outcome : Outcome} {count : ℕ}
+    {settled : List (PromiseId × Outcome)} {reply : Reply} → LetsGo outcome count old gone (Ok settled) left →
+    waiting_count new + count ≡ waiting_count old →
+    Makes (whole gone.list old) (step_of command (whole gone.list old)) (Ok reply) (whole left.list new) →
+    IsKept gone old → IsKept left new
+kept_fewer command {gone} {old = old} goes fewer made before = record {
+  few_writes = omega (arith, before.few_writes, goes.len, fewer);
+  room = omega (arith, before.room, goes.room, fewer);
+  stands = stays command (whole gone.list old) made before.stands;
+}
 
 -- a removal of the front is the command of its outcome
 pub removes : (outcome : Outcome) → ¬ (outcome ≡ Cancelled) → {old new : Pending} {result : Result Reply Refusal} →

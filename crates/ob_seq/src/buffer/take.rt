@@ -1,11 +1,11 @@
 //! One call for each command that takes several messages away.
 
-ghost use Rattle.std.specs.Prelude.{◌≡◌, ◌≤◌, ◌+◌, ◌++◌, length, map, take, IsOk, IfOk, OnOk, OnErr};
-ghost use Rattle.ob_types.specs.Limits.{inline_settlements, most_writes};
+ghost use Rattle.std.specs.Prelude.{◌≤◌, ◌+◌, length};
+ghost use Rattle.ob_types.specs.Limits.{most_writes};
 ghost use Rattle.ob_types.specs.declared.command.Command.TheVariants.{RemoveBytes, FailFlushed, Close};
+ghost use Rattle.ob_seq.specs.Kept.{LetsGo};
 ghost use Rattle.ob_seq.specs.Pending.{Obeys, SparesMemory};
-ghost use Rattle.ob_seq.specs.Steps.Commands.{entry_settlements};
-ghost use Rattle.ob_seq.specs.Unsent.{all_entries, ended, waiting_count};
+ghost use Rattle.ob_seq.specs.Unsent.{waiting_count};
 
 use crate::buffer::Buffer;
 use crate::contents::Contents;
@@ -122,15 +122,7 @@ fn let_go(
     requires some { count ≤ waiting_count contents.now }
     requires few { length gone.old.list + count ≤ most_writes }
     requires room { count ≤ gone.old.room }
-    ensures settled { IfOk result (λ settled. settled
-        ≡ entry_settlements outcome (length gone.old.list) (take count (all_entries contents.now))) }
-    ensures list { OnOk result (gone.new.list
-        ≡ gone.old.list ++ map (ended outcome) (take count (contents.now.line ++ contents.now.unflushed))) }
-    ensures len { OnOk result (length gone.new.list ≡ length gone.old.list + count) }
-    ensures room { OnOk result (gone.old.room ≤ gone.new.room + count) }
-    ensures refused { OnErr result (gone.new ≡ gone.old) }
-    ensures frugal { length (entry_settlements outcome (length gone.old.list) (take count (all_entries contents.now)))
-        ≤ inline_settlements → IsOk result }
+    ensures { LetsGo outcome count contents.now gone.old result gone.new }
 {
     let settled = contents.settlements(gone.len(), count, outcome)?;
     if settled.as_slice().len() == count {

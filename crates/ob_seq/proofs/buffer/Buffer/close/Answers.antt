@@ -5,8 +5,8 @@ use Rattle.ob_seq.specs.Kept.{pending_of}
 use Rattle.ob_seq.specs.Outcomes.{Endings}
 use Rattle.ob_seq.proofs.Inside.LetGo.{closes, closing_settles, flushed_left, none_left}
 use Rattle.ob_seq.proofs.Inside.Rooms.{line_there}
-use Rattle.ob_seq.proofs.Simulating.Kept.{refused, spared, wanted}
-use Rattle.ob_seq.proofs.Simulating.Simulated.{obeys, stays}
+use Rattle.ob_seq.proofs.Simulating.Kept.{kept_fewer, refused, spared, wanted}
+use Rattle.ob_seq.proofs.Simulating.Simulated.{obeys}
 use Rattle.ob_seq.proofs.buffer.Buffer.close.Goals as goal
 
 pub returns-then-line_count-gt0-clause-obeys : goal.returns-then-line_count-gt0-clause-obeys
@@ -37,21 +37,14 @@ returns-in_err-settled-clause-spares c =
 
 pub invariant_of-self-2 : goal.invariant_of-self-2
 invariant_of-self-2 c =
-    let inside = c.self.inside in
-    let went = c.in_ok-settled.ensures in
-    let none : length inside.contents.line ≡ 0 = omega (arith, c.line_count.ensures, c.if-line_count-gt0.false) in
-    let made = closes inside.gone.list inside.contents c.shut.new.self (sym c.is_closed.ensures ∙ c.if-is_closed.false)
-    c.args.cause none c.count-count.ensures went.settled went.list c.shut.ensures.closed in record {
-      few_writes = omega (arith, c.self.invariant.few_writes, went.len, c.shut.ensures.none, c.count-count.ensures);
-      room = omega (arith, c.shut.ensures.none);
-      stands = stays (Close c.args.cause) _ made c.self.invariant.stands;
-    }
+    let none : length c.self.inside.contents.line ≡ 0 = omega (arith, c.line_count.ensures, c.if-line_count-gt0.false) in
+    kept_fewer (Close c.args.cause) c.in_ok-settled.ensures (omega (arith, c.shut.ensures.none, c.count-count.ensures))
+    (closes _ _ _ c.shut.new.self (sym c.is_closed.ensures ∙ c.if-is_closed.false) c.args.cause none c.count-count.ensures
+    c.in_ok-settled.ensures c.shut.ensures.closed) c.self.invariant
 
 pub returns-clause-obeys : goal.returns-clause-obeys
 returns-clause-obeys c =
-    let inside = c.self.inside in
-    let went = c.in_ok-settled.ensures in
-    let none : length inside.contents.line ≡ 0 = omega (arith, c.line_count.ensures, c.if-line_count-gt0.false) in
-    let made = closes inside.gone.list inside.contents c.shut.new.self (sym c.is_closed.ensures ∙ c.if-is_closed.false)
-    c.args.cause none c.count-count.ensures went.settled went.list c.shut.ensures.closed in
-    obeys (Close c.args.cause) _ made c.self.view_is
+    let none : length c.self.inside.contents.line ≡ 0 = omega (arith, c.line_count.ensures, c.if-line_count-gt0.false) in
+    obeys (Close c.args.cause) _ (closes c.self.inside.gone c.let_go.new.gone _ c.shut.new.self
+    (sym c.is_closed.ensures ∙ c.if-is_closed.false) c.args.cause none c.count-count.ensures
+    c.in_ok-settled.ensures c.shut.ensures.closed) c.self.view_is

@@ -4,8 +4,8 @@ use Rattle.std.proofs.lemmas.Result.{err_from_is_err_and}
 use Rattle.ob_seq.specs.Kept.{pending_of}
 use Rattle.ob_seq.specs.Outcomes.{Endings}
 use Rattle.ob_seq.proofs.Inside.LetGo.{a_cut, no_cut, removal_settles, removes_bytes}
-use Rattle.ob_seq.proofs.Simulating.Kept.{refused, spared, wanted}
-use Rattle.ob_seq.proofs.Simulating.Simulated.{obeys, stays}
+use Rattle.ob_seq.proofs.Simulating.Kept.{kept_fewer, refused, spared, wanted}
+use Rattle.ob_seq.proofs.Simulating.Simulated.{obeys}
 use Rattle.ob_seq.proofs.buffer.Buffer.remove_bytes.Goals as goal
 
 pub returns-in_default-clause-obeys : goal.returns-in_default-clause-obeys
@@ -31,22 +31,13 @@ returns-in_err-settled-clause-spares c =
 
 pub invariant_of-self-2 : goal.invariant_of-self-2
 invariant_of-self-2 c =
-    let inside = c.self.inside in
-    let went = c.in_ok-settled.ensures in
-    let made = removes_bytes inside.gone.list inside.contents c.take_cut.new.self
-    (sym c.is_closed.ensures ∙ c.if-is_closed.false) c.args.n c.in-Some.ensures.value c.in-Some.ensures.within went.settled went.list
-    c.take_cut.ensures in record {
-      few_writes = omega (arith, c.self.invariant.few_writes, went.len, c.take_cut.ensures.fewer);
-      room = omega (arith, c.self.invariant.room, went.room, c.take_cut.ensures.fewer);
-      stands = stays (RemoveBytes c.args.n) _ made c.self.invariant.stands;
-    }
+    kept_fewer (RemoveBytes c.args.n) c.in_ok-settled.ensures c.take_cut.ensures.fewer
+    (removes_bytes _ _ _ _ (sym c.is_closed.ensures ∙ c.if-is_closed.false) c.args.n c.in-Some.ensures.value c.in-Some.ensures.within
+    c.in_ok-settled.ensures c.take_cut.ensures) c.self.invariant
 
 pub returns-clause-obeys : goal.returns-clause-obeys
 returns-clause-obeys c =
-    let inside = c.self.inside in
-    let went = c.in_ok-settled.ensures in
-    let made = removes_bytes inside.gone.list inside.contents c.take_cut.new.self
-    (sym c.is_closed.ensures ∙ c.if-is_closed.false) c.args.n c.in-Some.ensures.value c.in-Some.ensures.within went.settled went.list
-    c.take_cut.ensures in
     rw (c.between.ensures, c.word-before.ensures, c.word.ensures)
-    (obeys (RemoveBytes c.args.n) _ made c.self.view_is)
+    (obeys (RemoveBytes c.args.n) _ (removes_bytes c.self.inside.gone c.let_go.new.gone _ _
+    (sym c.is_closed.ensures ∙ c.if-is_closed.false) c.args.n c.in-Some.ensures.value c.in-Some.ensures.within
+    c.in_ok-settled.ensures c.take_cut.ensures) c.self.view_is)
