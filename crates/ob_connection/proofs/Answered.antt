@@ -136,13 +136,7 @@ module _ (Due : ℕ → List (List ℕ) → Type 0) where
     -- a sending that ended early, of more turns
     pub asks_within : {many : ℕ} {ending : Ending} → ¬ (ending ≡ TurnsUsed) → turns ≤ many →
         AsksInTurns Due turns first before ending mid → AsksInTurns Due many first before ending mid
-    asks_within {many} {ending} other fit asks = record {
-      made = asks.made;
-      calls = asks.calls;
-      offers = asks.offers;
-      bytes = asks.bytes;
-      ends = more_turns turns many (answers_of asks.made) ending other fit asks.ends;
-    }
+    asks_within {many} {ending} other fit asks = grind (arith, more_turns)
 
     -- a sending whose calls were offered what is due by this rule too
     pub asks_as : {ending : Ending} → (Here : ℕ → List (List ℕ) → Type 0) →

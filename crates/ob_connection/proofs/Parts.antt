@@ -1,8 +1,7 @@
 -- The bytes of parts, one part after the other.
-use Rattle.ob_connection.proofs.Words.{◌≡◌, ◌<◌, ◌≤◌, ◌+◌, ℕ, List, [], ◌∷◌, ◌++◌, length, take, drop, map, ap, sym, ◌∙◌, arith}
+use Rattle.ob_connection.proofs.Words.{◌≡◌, ◌<◌, ◌≤◌, ◌+◌, ℕ, List, [], ◌∷◌, ◌++◌, length, take, drop, ap, sym, ◌∙◌, arith}
 use Rattle.ob_connection.proofs.Words.{append-nil, append_assoc, length-append}
 use denote.Ref.{Bor}
-use Rattle.std.specs.List.{concat}
 use Rattle.std.proofs.Math.ListN.{get_or}
 use Rattle.std.proofs.lemmas.List.{map-append, take-append-drop, take_more}
 use Rattle.std.proofs.lemmas.List.Folds.{concat-append}
@@ -17,9 +16,7 @@ no_part = record { ref_ptr = (0, 0); now = [] }
 
 -- of two lists of parts
 both : (first rest : List Part) → joined (first ++ rest) ≡ joined first ++ joined rest
-both first rest =
-    ap concat (map-append (λ (part : Part). part.now) first rest)
-    ∙ concat-append (map (λ (part : Part). part.now) first) (map (λ (part : Part). part.now) rest)
+both first rest = grind (arith, map-append, concat-append)
 
 -- with one part more
 pub one_more : (parts : List Part) (place : ℕ) (part : Part) → place < length parts →
@@ -51,7 +48,4 @@ more_bytes parts place part within = (
 pub further : (before : List ℕ) {now after : List ℕ} (parts : List Part) (place : ℕ) → place < length parts →
     now ≡ before ++ joined (take place parts) → after ≡ now ++ (get_or parts place no_part).now →
     after ≡ before ++ joined (take (place + 1) parts)
-further before parts place within is next =
-    next ∙ ap (λ bytes. bytes ++ (get_or parts place no_part).now) is
-    ∙ append_assoc before (joined (take place parts)) (get_or parts place no_part).now
-    ∙ ap (λ bytes. before ++ bytes) (sym (one_more parts place no_part within))
+further before parts place within is next = grind (arith, append_assoc, one_more)

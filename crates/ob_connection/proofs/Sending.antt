@@ -1,13 +1,12 @@
 -- What was sent can be taken away.
 use Rattle.ob_connection.proofs.Words.{◌≡◌, ◌≤◌, ℕ, Bool, false, not, List, [], refl, subst, length, take, ltb, cond, sym, ap, ◌∙◌, whole}
 use Rattle.ob_connection.proofs.Words.{arith, nat_tests, Some, None, Option, Err, Refusal, Closed, Reply, Command, Settings}
-use Rattle.ob_connection.proofs.Words.{Connected, StandsFor, Gives, most_ids, true, ◌<◌}
+use Rattle.ob_connection.proofs.Words.{Connected, StandsFor, Gives, true, ◌<◌}
 use Rattle.std.proofs.lemmas.List.{length-map}
 use Rattle.ob_types.specs.Limits.{greatest_total}
-use Rattle.ob_seq.specs.Looks.{PendingEntry, entry_of, first_blocks, gathered_after, with_bytes}
+use Rattle.ob_seq.specs.Looks.{first_blocks, gathered_after, with_bytes}
 use Rattle.ob_seq.specs.Rows.{line}
 use Rattle.ob_seq.specs.State.{closed_after, empty_after, is_closed}
-use Rattle.ob_seq.specs.Unsent.{pending_entry}
 use Rattle.ob_seq.proofs.Rows.Limits.{run_within}
 use Rattle.ob_connection.specs.declared.ending.Ending.{Ending}
 use Rattle.ob_connection.specs.declared.ending.Ending.TheVariants.{Drained, Blocked as NoRoom, OtherInFront, TurnsUsed, Broken as IsBroken}
@@ -21,7 +20,7 @@ use Rattle.std.specs.Prelude.{min, is_some, IfOk, Result, ◌&&◌}
 use Rattle.ob_connection.proofs.Words.{◌∷◌, ◌++◌, Past, held, connection_limit}
 use Rattle.ob_types.specs.declared.command.Command.TheVariants.{RemoveBytes}
 use Rattle.ob_types.specs.declared.refusal.Refusal.TheVariants.{TooManyBytes}
-use Rattle.ob_seq.specs.Answer.{reply_of, unless_refused}
+use Rattle.ob_seq.specs.Answer.{unless_refused}
 use Rattle.ob_seq.specs.Effect.{byte_run, rows_after, bytes_in}
 use Rattle.ob_seq.proofs.Inside.Gathered.{gathered_first, length_of_concat, more_gathered}
 use Rattle.ob_seq.proofs.Simulating.BytesRemoved.{run_is}
@@ -45,9 +44,7 @@ module _ (now : Connected) (commands : List Command) (stands : StandsFor now com
   run = byte_run (rows_after now.unsent.settings.estimate commands)
 
   offered_few : bytes ≤ length (concat (first_blocks (min most_pieces max_count) max_bytes (with_bytes run)))
-  offered_few =
-      rw (← ap (λ blocks. length (concat (first_blocks (min most_pieces max_count) max_bytes (with_bytes blocks))))
-      (run_after now commands stands)) within
+  offered_few = grind (arith, run_after)
 
   pub offered_within : bytes ≤ bytes_in run
   offered_within =
@@ -60,12 +57,7 @@ module _ (now : Connected) (commands : List Command) (stands : StandsFor now com
   pub offered_are_gathered :
       take bytes (concat (offered (min most_pieces max_count) max_bytes now.unsent))
       ≡ take bytes (concat (gathered_after now.unsent.settings commands max_count max_bytes))
-  offered_are_gathered =
-      let more = more_gathered (min most_pieces max_count) max_count max_bytes (with_bytes run) (omega arith) in
-      ap (λ blocks. take bytes (concat (first_blocks (min most_pieces max_count) max_bytes (with_bytes blocks))))
-      (run_after now commands stands)
-      ∙ (gathered_first (min most_pieces max_count) max_bytes run bytes offered_few).0
-      ∙ sym (gathered_first max_count max_bytes run bytes (omega (arith, offered_few, more))).0
+  offered_are_gathered = grind (arith, more_gathered, run_after, gathered_first, offered_few)
 
 by_tests : (closed few : Bool) (reply : Reply) (refusal : Refusal) → closed ≡ false → few ≡ false →
     (let first : Option Refusal = cond closed (Some Closed) (cond few (Some TooManyBytes) None) in
@@ -76,22 +68,12 @@ by_tests closed few reply refusal unclosed enough same = grind arith
 pub not_refused : (settings : Settings) (commands : List Command) (n : ℕ) (refusal : Refusal) →
     is_closed commands ≡ false → n ≤ bytes_in (byte_run (rows_after settings.estimate commands)) →
     Err refusal ≡ answer_of_connection settings commands (RemoveBytes n) → ⊥
-not_refused settings commands n refusal unclosed within same =
-    let run = bytes_in (byte_run (rows_after settings.estimate commands)) in
-    let test : ltb run n ≡ false = grind (arith, nat_tests) in
-    by_tests (is_closed commands) (ltb run n) (reply_of settings commands (RemoveBytes n)) refusal unclosed test same
+not_refused settings commands n refusal unclosed within same = grind (arith, by_tests)
 
 -- how many stand in line
 line_count : (now : Connected) (commands : List Command) → StandsFor now commands →
     length now.unsent.line ≡ length (line (rows_after now.unsent.settings.estimate commands))
-line_count now commands stands =
-    let rows = rows_after now.unsent.settings.estimate commands in
-    omega (
-      arith,
-      length-map now.unsent.line pending_entry,
-      ap (λ (entries : List PendingEntry). length entries) stands.leaves.line,
-      length-map (line rows) entry_of,
-    )
+line_count now commands stands = grind (arith, length-map)
 
 is_empty : (now : Connected) → length now.unsent.line ≡ 0 → Gives now empty_after true
 is_empty now none commands stands = let same = line_count now commands stands in grind (arith, nat_tests)
@@ -111,12 +93,7 @@ ends_are now (IsBroken error) some = is_not_empty now some
 -- an open connection has no more bytes in front than may be pending
 pub few_in_front : (now : Connected) (commands : List Command) → StandsFor now commands →
     bytes_in (run_of now.unsent) ≤ greatest_total
-few_in_front now commands stands =
-    omega (
-      arith,
-      run_within now.unsent.settings most_ids commands stands.accepted,
-      ap bytes_in (run_after now commands stands),
-    )
+few_in_front now commands stands = grind (arith, run_within, run_after)
 
 -- what is offered is what is offered after the history
 offered_is : (now : Connected) (commands : List Command) → StandsFor now commands → (max_count max_bytes : ℕ) →

@@ -1,16 +1,15 @@
 -- What messages settle that are taken away, as an interval of ids and as the model lists it.
-use Rattle.ob_connection.proofs.Words.{◌≡◌, refl, sym, ap, ◌∙◌, arith, ℕ, zero, suc, ◌+◌, ◌-◌, ◌≤◌, List, [], ◌∷◌, ◌++◌}
+use Rattle.ob_connection.proofs.Words.{◌≡◌, refl, arith, ℕ, zero, suc, ◌+◌, ◌-◌, ◌≤◌, List, [], ◌∷◌, ◌++◌}
 use Rattle.ob_connection.proofs.Words.{length, map, take, drop, Option, Outcome, PromiseState}
 use Rattle.ob_connection.proofs.Words.{Past, held, Connected}
 use Rattle.std.proofs.lemmas.List.{drop_at, length-map, nil_from_length, take_all}
 use Rattle.ob_types.specs.declared.promise.Cause.{Cause}
 use Rattle.ob_types.specs.declared.promise.Outcome.TheVariants.{Failed}
-use Rattle.ob_types.specs.declared.promise.PromiseState.TheVariants.{Settled}
 use Rattle.ob_types.specs.declared.reply.Answer.TheVariants.{Count}
 use Rattle.ob_types.specs.declared.reply.Change.{Change}
 use Rattle.ob_seq.specs.Steps.Commands.{failures, entry_settlements}
 use Rattle.ob_seq.specs.Steps.Step.{front_id, unflushed_id}
-use Rattle.ob_seq.specs.Unsent.{fixed_state, pending_entries, states_of, unreached_entry, waiting_state}
+use Rattle.ob_seq.specs.Unsent.{fixed_state, pending_entries, states_of, waiting_state}
 use Rattle.ob_seq.specs.declared.entry.Entry.{Entry}
 use Rattle.ob_seq.proofs.Inside.Rooms.{fresh_states, promises_there}
 use Rattle.ob_seq.proofs.Rows.Acceptance.{same_reply}
@@ -32,9 +31,7 @@ settled_entries outcome id (suc count) (entry ∷ line) rest few =
 -- the promises of what waits
 waiting_promises : {connection : Connected} (past : Past connection) →
     drop connection.gone (held past).promises ≡ states_of connection.unsent
-waiting_promises {connection} past =
-    drop_at (map {A = Outcome} {B = PromiseState} (λ outcome. Settled outcome) past.outcomes)
-    (states_of connection.unsent) connection.gone (length-map past.outcomes (λ outcome. Settled outcome) ∙ past.count)
+waiting_promises {connection} past = grind (arith, drop_at, length-map)
 
 -- what was taken away from this number on, up to another
 abbrev pub taken_between : ℕ → ℕ → Outcome → Option Change → Taken
@@ -52,15 +49,7 @@ pub line_replied : {connection : Connected} (past : Past connection) (to count :
       change = told;
     }
 line_replied {connection} past to count outcome change told end few same =
-    let size : to - connection.gone ≡ count = omega arith in
-    same_reply (ap Count size)
-    (ap (λ n. settled_from outcome connection.gone (take n (drop connection.gone (held past).promises))) size
-    ∙ ap (λ states. settled_from outcome connection.gone (take count states)) (waiting_promises past)
-    ∙ settled_entries outcome connection.gone count connection.unsent.line
-    (map waiting_state connection.unsent.unflushed) few
-    ∙ ap (λ id. entry_settlements outcome id (take count (pending_entries connection.unsent.line)))
-    (sym (front_id_there past)))
-    same
+    grind (arith, same_reply, waiting_promises, settled_entries, front_id_there)
 
 -- the promises of unflushed entries settle as failed what a close does
 settled_failures : (cause : Cause) (id : ℕ) (unflushed : List Entry) →
@@ -79,20 +68,4 @@ pub close_replied : {connection : Connected} (past : Past connection) (to : ℕ)
       change = told;
     }
 close_replied {connection} past to cause change told end empty same =
-    let fresh = connection.unsent.unflushed in
-    let size : to - connection.gone ≡ length fresh = omega arith in
-    let seen = length-map fresh unreached_entry in
-    let none : connection.unsent.line ≡ [] = nil_from_length connection.unsent.line empty in
-    let states = length-map fresh waiting_state in
-    let id : connection.gone ≡ unflushed_id (held past) =
-    omega (arith, promises_there past.outcomes connection.unsent, past.count, seen, empty) in
-    same_reply (ap Count (size ∙ sym seen))
-    (ap (λ n. settled_from (Failed cause) connection.gone (take n (drop connection.gone (held past).promises))) size
-    ∙ ap (λ all. settled_from (Failed cause) connection.gone (take (length fresh) all)) (waiting_promises past)
-    ∙ ap (λ (line : List Entry). settled_from (Failed cause) connection.gone
-    (take (length fresh) (map fixed_state line ++ map waiting_state fresh))) none
-    ∙ ap (settled_from (Failed cause) connection.gone) (take_all (length fresh) (map waiting_state fresh) (omega arith))
-    ∙ settled_failures cause connection.gone fresh
-    ∙ ap (failures cause connection.gone) (sym (fresh_states past.outcomes connection.unsent))
-    ∙ ap (λ n. failures cause n (drop (unflushed_id (held past)) (held past).promises)) id)
-    same
+    grind (arith, length-map, nil_from_length, promises_there, same_reply, waiting_promises, take_all, settled_failures, fresh_states)

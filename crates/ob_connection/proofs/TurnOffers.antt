@@ -101,10 +101,7 @@ holds_bytes (block ∷ blocks) some = by_test (ltb 0 (length block)) refl (holds
 -- if a socket is offered anything there are bytes in front
 pub offered_some : (max_count max_bytes : ℕ) (unsent : Unsent) → 0 < length (offered max_count max_bytes unsent) →
     0 < bytes_in (run_of unsent)
-offered_some max_count max_bytes unsent some =
-    let holding = with_bytes (run_of unsent) in
-    holds_bytes (run_of unsent)
-    (omega (arith, some, length-take (min max_count (max 1 (pieces_within max_bytes holding))) holding))
+offered_some max_count max_bytes unsent some = grind (arith, holds_bytes, length-take)
 
 -- what is left after a turn is left from the start, `a` bytes further on
 pub left_further : (old mid : Connected) (a : ℕ) → Becomes (removed a) old mid → a ≤ bytes_in (run_of old.unsent) →

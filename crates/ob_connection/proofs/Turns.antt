@@ -78,9 +78,7 @@ module _ (now : Pending) (entry : PendingEntry) (entries : List PendingEntry) (i
 
   -- a removal that ends in the front
   pub removed_in : (n : ℕ) → n < length bytes → removed n now ≡ front_skipped n now
-  removed_in n few =
-      ap (λ pieces. bytes_removed (whole_cut n pieces) now) left_is
-      ∙ ap (λ (one : Cut). bytes_removed one now) (cut_within n bytes (blocks_left entries) few)
+  removed_in n few = grind (arith, left_is, cut_within)
 
   -- how many are gone whole
   whole_behind : (n : ℕ) → length bytes ≤ n →

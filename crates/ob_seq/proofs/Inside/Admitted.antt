@@ -31,19 +31,14 @@ module _ (limit : Option ℕ) (message : Message) (old : Pending) where
   pub asked_there : (gone : List Outcome) (unsent : Unsent) → whole gone unsent ≡ old → {writes : ℕ} {size result : Result ℕ Refusal} →
       writes ≡ length old.promises → size ≡ pending_size_of unsent.settings.estimate message →
       result ≡ admitted limit writes size (whole [] unsent) → result ≡ asked limit message old
-  asked_there gone unsent view {writes} {size} given counted is =
-      is ∙ whatever_gone limit writes size gone unsent ∙ ap (λ (n : ℕ). admitted limit n size (whole gone unsent)) given
-      ∙ ap (λ (one : Result ℕ Refusal). admitted limit (length old.promises) one (whole gone unsent)) counted
-      ∙ ap (λ (now : Pending). admitted limit (length old.promises) (pending_size_of now.settings.estimate message) now) view
+  asked_there gone unsent view {writes} {size} given counted is = grind (arith, whatever_gone)
 
   -- what refuses a message refuses its write first
   pub first_is : result_err (asked limit message old) ≡ first_of_step old (write_step_within limit message old)
   first_is = grind arith
 
   pub refusal_other : {refusal : Refusal} → Err refusal ≡ asked limit message old → ¬ (refusal ≡ NoMemory)
-  refusal_other {refusal} is same =
-      wants_none limit (length old.promises) (pending_size_of old.settings.estimate message) old
-      (size_wants_none old message) (grind arith)
+  refusal_other {refusal} is same = grind (arith, wants_none, size_wants_none)
 
   -- a write that is refused
   pub write_refused : {refusal : Refusal} → Err refusal ≡ asked limit message old →
@@ -77,8 +72,4 @@ module _ (limit : Option ℕ) (message : Message) (old : Pending) where
         id ≡ length old.promises → change ≡ change_between old.word new.word →
         Makes old (write_step_within limit message old)
         (Ok (record { answer = Id (record { 0 = id }); settled = []; change = change })) new
-    write_made {new} {id} {change} after given turned =
-        let there = after ∙ ap (written old message) counts in
-        makes_taken old (write_step_within limit message old)
-        (record { answer = Id (record { 0 = id }); settled = []; change = change }) new unclosed none
-        (rw (given, turned, there)) there
+    write_made {new} {id} {change} after given turned = grind (arith, counts, makes_taken, unclosed, none)

@@ -1,8 +1,7 @@
 -- The blocks that entries have left, one entry after another.
-use Rattle.ob_seq.proofs.Words.{◌∙◌, [], ◌≡◌, ℕ, ◌≤◌, false, List, ◌∷◌, length, map, cond, arith, length-map}
+use Rattle.ob_seq.proofs.Words.{[], ◌≡◌, ℕ, ◌≤◌, false, List, ◌∷◌, length, map, cond, arith, length-map}
 use Rattle.ob_seq.proofs.Words.{take_while-cons, Message, Block, is_block, block_bytes, PendingEntry, blocks_left}
 use Rattle.ob_seq.proofs.Words.{pieces_within}
-use Rattle.std.specs.Prelude.{take_while}
 use Rattle.std.proofs.lemmas.List.Sums.{prefix_len-le-length}
 use Rattle.std.proofs.lemmas.List.Folds.{length-prefix_len}
 use Rattle.ob_seq.proofs.Inside.Pieces.{fitting_few, within_is_fitting}
@@ -27,8 +26,4 @@ module _ (entry : PendingEntry) (entries : List PendingEntry) where
 -- no more entries go than stand in line
 pub few_entries : (n : ℕ) (line : List PendingEntry) → pieces_within n (blocks_left line) ≤ length line
 few_entries n line =
-    let messages = map message_of line in
-    let fit = within_is_fitting n (blocks_left line) in
-    let few = fitting_few n (blocks_left line) in
-    let blocks = length-map (take_while is_block messages) block_bytes ∙ length-prefix_len is_block messages in
-    omega (arith, prefix_len-le-length is_block messages, length-map line message_of)
+    grind (arith, within_is_fitting, fitting_few, length-map, length-prefix_len, prefix_len-le-length)

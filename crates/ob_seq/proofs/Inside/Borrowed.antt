@@ -1,5 +1,5 @@
 -- What is gathered into pieces, one after another.
-use Rattle.ob_seq.proofs.Words.{◌≡◌, ◌≤◌, ◌<◌, [], ◌∷◌, ◌++◌, ℕ, ◌+◌, List, length, take, drop, map, sym, ap, ◌∙◌, arith}
+use Rattle.ob_seq.proofs.Words.{◌≡◌, ◌≤◌, ◌<◌, [], ◌∷◌, ◌++◌, ℕ, ◌+◌, List, length, take, drop, map, sym, ◌∙◌, arith}
 use Rattle.ob_seq.proofs.Words.{map-append, length-map, slice_set, append-nil, first_blocks, with_bytes}
 use Rattle.std.specs.Io.Slices.{io_slice_bytes}
 use Rattle.std.specs.declared.io.slices.IoSlice.{IoSlice}
@@ -17,9 +17,7 @@ filled_count count pieces within = rw (length-map, length-take) (omega arith)
 -- one more is filled
 pub filled_more : (count : ℕ) (pieces : List IoSlice) (piece : IoSlice) → count < length pieces →
     filled (count + 1) (slice_set pieces count piece) ≡ filled count pieces ++ io_slice_bytes piece ∷ []
-filled_more count pieces piece within =
-    ap (map io_slice_bytes) (take_more_set pieces count piece within)
-    ∙ map-append io_slice_bytes (take count pieces) (piece ∷ [])
+filled_more count pieces piece within = grind (arith, take_more_set, map-append)
 
 -- and those behind stay
 pub rest_behind : (count : ℕ) (pieces before : List IoSlice) (piece : IoSlice) →

@@ -15,11 +15,7 @@ sum_seen see f (entry ∷ items) =
 -- the bytes that are pending are those that both runs count
 pub total_of : (gone : List Outcome) (unsent : Unsent) →
     pending_total (whole gone unsent) ≡ counted unsent.line + counted unsent.unflushed
-total_of gone unsent =
-    rw (
-      sum_seen pending_entry (λ entry. entry.size) unsent.line,
-      sum_seen _ (λ entry. entry.size) unsent.unflushed,
-    )
+total_of gone unsent = grind (arith, sum_seen)
 
 -- two parts of a list count together what the list counts
 pub both_runs : (n : ℕ) (items : List Entry) → counted (take n items) + counted (drop n items) ≡ counted items

@@ -75,10 +75,7 @@ module _ (gone : List Outcome) (unsent : Unsent) {now : Pending} (view : whole g
     (begins : first ≡ length gone) where
   -- the first in line are the first of all
   pub in_line : (count : ℕ) → count ≤ length now.line → take count (all_entries unsent) ≡ take count now.line
-  in_line count few =
-      let line = ap (λ (one : Pending). length one.line) view in
-      rw (← view, map-append pending_entry unsent.line unsent.unflushed)
-      (take-append-le count (pending_entries unsent.line) (pending_entries unsent.unflushed) (omega (arith, few, line)))
+  in_line count few = grind (arith, map-append, take-append-le)
 
   -- so they settle what the line does
   pub line_settles : (outcome : Outcome) (count : ℕ) → count ≤ length now.line →

@@ -30,10 +30,7 @@ module _ (held : Unsent) (inside : Inside) (view : unsent_of inside ≡ held) (s
   -- the entry at a place before the cursor stands there in line
   pub in_line : (place : ℕ) (entry : Entry) → place < inside.flushed → entry ≡ get_or inside.entries.items place entry →
       pending_entry entry ≡ get_or (pending_entries held.line) place (pending_entry entry)
-  in_line place entry before is =
-      rw (line_is, get_or-take inside.flushed (pending_entries inside.entries.items) place (pending_entry entry) before)
-      (let within : place < length inside.entries.items = omega (arith, sound.line_within, inside.entries.ok) in
-      entry_at inside.entries.items place entry (pending_entry entry) within is)
+  in_line place entry before is = grind (arith, line_is, get_or-take, entry_at)
 
 -- what stands in line from that place on
 module _ {held : Unsent} {inside : Inside} (view : unsent_of inside ≡ held) (sound : IsSound inside) {place : ℕ}
@@ -61,7 +58,4 @@ module _ {held : Unsent} {inside : Inside} (view : unsent_of inside ≡ held) (s
 -- and at the end
 pub left_at_end : {held : Unsent} {inside : Inside} {place : ℕ} → unsent_of inside ≡ held → IsSound inside →
     inside.flushed ≤ place → blocks_left (drop place (pending_entries held.line)) ≡ []
-left_at_end {held} {inside} {place} view sound past =
-    let over : length (pending_entries held.line) ≤ place =
-    rw (length-map) (omega (arith, line_count held inside view sound)) in
-    rw (drop_all place (pending_entries held.line) over)
+left_at_end {held} {inside} {place} view sound past = grind (arith, length-map, line_count, drop_all)

@@ -55,20 +55,13 @@ module _ (limit room : ℕ) (items : List (List ℕ)) (block : List ℕ) (blocks
   -- another ends the walk or goes along
   pub ended : 0 < size → goes_along limit count room size ≡ false →
       more_blocks limit (length items) room (block ∷ blocks) ≡ []
-  ended some over =
-      let full : ltb 0 (length block) ≡ true = grind (arith, nat_tests) in
-      let none : here ≡ 0 = grind (arith, nat_tests) in rw (full, none)
+  ended some over = grind arith
 
   pub pushed : {room' : ℕ} {items' : List (List ℕ)} → 0 < size → goes_along limit count room size ≡ true →
       items' ≡ items ++ block ∷ [] → room' ≡ room - size →
       items ++ more_blocks limit (length items) room (block ∷ blocks)
       ≡ items' ++ more_blocks limit (length items') room' blocks
-  pushed some goes more left =
-      let full : ltb 0 (length block) ≡ true = grind (arith, nat_tests) in
-      let none : room ≤ length block → fitting (room - length block) (with_bytes blocks) ≡ 0 = λ small.
-      let used : room - length block ≡ 0 = omega arith in rw (used, no_room blocks) in
-      let one : here ≡ suc behind = grind (arith, nat_tests) in
-      rw (full, one, more, left, long, length-append items (block ∷ []), append_assoc)
+  pushed some goes more left = grind (arith, fitting, no_room, length-append, append_assoc)
 
   -- so that something is gathered
   pub something : 0 < size → goes_along limit count room size ≡ true →

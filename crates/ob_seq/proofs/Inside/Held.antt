@@ -120,10 +120,7 @@ module _ (old new : Pending) (commands : List Command) (command : Command) (leav
       Holds new (effect old.settings.estimate (rows_after old.settings.estimate commands) command) →
       new.word ≡ word_after old.settings (commands ++ command ∷ []) → Leaves new (commands ++ command ∷ [])
   left_by_more opened closed holds =
-      let before = sym leaves.closed ∙ unclosed in
-      left_by_rows new old.settings (commands ++ command ∷ []) (opened ∙ opening_more old commands command leaves)
-      (closed ∙ sym (closed_more commands command before))
-      (rw (rows_after_more old.settings.estimate commands command) holds)
+      grind (arith, left_by_rows, opening_more, closed_more, rows_after_more)
 
   -- the same, by the parts of those rows
   pub left_by_parts : (gone standing fresh : List Row) → opening new ≡ opening_with command old → new.closed ≡ is_close command →

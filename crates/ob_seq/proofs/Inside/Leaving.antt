@@ -49,9 +49,7 @@ first_in_line outcome count line unflushed few =
 pub all_unflushed : (outcome : Outcome) (count : ℕ) (line unflushed : List Entry) → length line ≡ 0 →
     count ≡ length line + length unflushed →
     map (ended outcome) (take count (line ++ unflushed)) ≡ map (ended outcome) unflushed
-all_unflushed outcome count line unflushed none all =
-    let empty : line ≡ [] = nil_from_length line none in
-    rw empty (ap (λ (some : List Entry). map (ended outcome) some) (take_all count unflushed (omega (arith, none, all))))
+all_unflushed outcome count line unflushed none all = grind (arith, nil_from_length, take_all)
 
 -- an entry was not taken back if as many were not as there are
 all_but : (flag : Bool) (rest count : ℕ) → cond (not flag) 1 0 + rest ≡ suc count → rest ≤ count →
@@ -75,8 +73,4 @@ all_end outcome (entry ∷ entries) all =
 pub first_end : (outcome : Outcome) (count : ℕ) (entries : List Entry) → count ≤ length entries →
     count_by (λ (entry : PendingEntry). not entry.voided) (take count (pending_entries entries)) ≡ count →
     map (ended outcome) (take count entries) ≡ replicate count outcome
-first_end outcome count entries few all =
-    let size = length-take-le count entries few in
-    let some = ap (λ (some : List PendingEntry). count_by (λ (entry : PendingEntry). not entry.voided) some)
-    (take-map pending_entry count entries) in
-    all_end outcome (take count entries) (sym some ∙ all ∙ sym size) ∙ ap (λ (n : ℕ). replicate n outcome) size
+first_end outcome count entries few all = grind (arith, length-take-le, take-map, all_end)

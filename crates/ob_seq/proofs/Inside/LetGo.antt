@@ -3,10 +3,10 @@
 use Rattle.ob_seq.proofs.Words.{◌≡◌, ◌≤◌, ◌<◌, ◌++◌, ℕ, Bool, List, false, true, length, length-map, map, take, take_all, refl, sym, ap, ◌∙◌, arith, nat_tests}
 use Rattle.ob_seq.proofs.Words.{Option, Some, None, Cause, Cut, Count, Failed, Outcome, Pending, PromiseId, Refusal, Success, Unsent, TooManyBytes}
 use Rattle.ob_seq.proofs.Words.{bytes_in, blocks_left, change_between, closed_pending, cond, cut_of, ended, entry_settlements, failing_step, front_id}
-use Rattle.ob_seq.proofs.Words.{front_taken, ltb, pending_entry, times, unreached_entry, waiting_count, whole, whole_cut}
+use Rattle.ob_seq.proofs.Words.{front_taken, ltb, pending_entry, times, waiting_count, whole, whole_cut}
 use Rattle.std.specs.Prelude.{Ok}
 use Rattle.ob_types.specs.declared.refusal.Refusal.TheVariants.{FlushedLeft}
-use Rattle.ob_seq.specs.Steps.Commands.{bytes_removed, bytes_reply, bytes_step, closing_step}
+use Rattle.ob_seq.specs.Steps.Commands.{bytes_reply, bytes_step, closing_step}
 use Rattle.ob_seq.specs.Kept.{LetsGo}
 use Rattle.ob_seq.specs.Outcomes.{Endings}
 use Rattle.ob_seq.specs.Steps.Step.{Makes}
@@ -57,9 +57,7 @@ module _ (gone : List Outcome) (old : Unsent) where
   pub failing_settles : (cause : Cause) (notice : Bool) {count : ℕ} → count ≡ length old.line →
       entry_settlements (Failed cause) (length gone) (take count (all_entries old))
       ≡ (failing_step cause notice now).reply.settled
-  failing_settles cause notice {count} all =
-      in_line_settle (Failed cause) count (omega (arith, all)) ∙ ap (entry_settlements (Failed cause) (front_id now))
-      (take_all count now.line (omega (arith, all, length-map old.line pending_entry)))
+  failing_settles cause notice {count} all = grind (arith, in_line_settle, take_all, length-map)
 
   pub removal_settles : (n : ℕ) {cut : Cut} → Some cut ≡ cut_of n (blocks_left now.line) → cut.whole ≤ length old.line →
       entry_settlements Success (length gone) (take cut.whole (all_entries old)) ≡ (bytes_step n now).reply.settled
@@ -74,9 +72,7 @@ module _ (gone : List Outcome) (old : Unsent) where
   left_in_line : (new : Unsent) {left : List Outcome} (outcome : Outcome) {count : ℕ} → count ≤ length old.line →
       left ≡ gone ++ map (ended outcome) (take count (old.line ++ old.unflushed)) →
       whole left new ≡ whole (gone ++ map (ended outcome) (take count old.line)) new
-  left_in_line new outcome {count} few ends =
-      ap (λ some. whole some new)
-      (ends ∙ ap (λ more. gone ++ more) (first_in_line outcome count old.line old.unflushed few))
+  left_in_line new outcome {count} few ends = grind (arith, first_in_line)
 
 -- so the step is made
 module _ (gone left : Endings) (old new : Unsent) (unclosed : old.closed ≡ false) {settled : List (PromiseId × Outcome)} where
@@ -98,13 +94,7 @@ module _ (gone left : Endings) (old new : Unsent) (unclosed : old.closed ≡ fal
       Makes (whole gone.list old) (bytes_step n (whole gone.list old))
       (Ok (reply_from (Count cut.whole) settled (change_between old.word new.word))) (whole left.list new)
   removes_bytes n found few goes takes =
-      let held = whole gone.list old in
-      let there = a_cut n held found in
-      let after = left_in_line gone.list old new Success few goes.list ∙ takes.taken gone.list
-      ∙ ap (λ (one : Cut). bytes_removed one held) there.1 in
-      makes_taken held (bytes_step n held) _ (whole left.list new) unclosed there.0
-      (same_reply (ap (λ (one : Cut). Count one.whole) there.1) (goes.settled ∙ removal_settles gone.list old n found few)
-      (ap (λ (one : Pending). change_between old.word one.word) after)) after
+      grind (arith, a_cut, left_in_line, makes_taken, same_reply, removal_settles)
 
   pub closes : (cause : Cause) {count : ℕ} → length old.line ≡ 0 → count ≡ waiting_count old →
       LetsGo (Failed cause) count old gone (Ok settled) left →
@@ -113,11 +103,4 @@ module _ (gone left : Endings) (old new : Unsent) (unclosed : old.closed ≡ fal
       Makes (whole gone.list old) (closing_step cause (whole gone.list old)) (Ok (reply_from (Count count) settled None))
       (whole left.list new)
   closes cause {count} none all goes closed =
-      let held = whole gone.list old in
-      makes_taken held (closing_step cause held) _ (whole left.list new) unclosed
-      (none_left cause held (length-map old.line pending_entry ∙ none))
-      (same_reply (ap Count (omega (arith, all, none, length-map old.unflushed unreached_entry)))
-      (goes.settled ∙ closing_settles gone.list old cause none all) (sym (nothing_turned old.word)))
-      (ap (λ some. whole some new) (goes.list
-      ∙ ap (λ more. gone.list ++ more) (all_unflushed (Failed cause) count old.line old.unflushed none all))
-      ∙ closed gone.list cause)
+      grind (arith, makes_taken, none_left, length-map, same_reply, closing_settles, nothing_turned, all_unflushed)

@@ -12,11 +12,7 @@ first_where_open old step unclosed is = rw (unclosed, is) refl
 -- a step that is refused
 pub makes_refused : (old : Pending) (step : Step) (refusal : Refusal) → ¬ (refusal ≡ NoMemory) →
     first_of_step old step ≡ Some refusal → Makes old step (Err refusal) old
-makes_refused old step refusal other is = record {
-  answer = λ wanted. rw is refl;
-  after = refl;
-  no_memory_last = λ wants. absurd (other (cc));
-}
+makes_refused old step refusal other is = grind arith
 
 -- a step that is out of memory, and is not refused otherwise
 pub makes_wanting : (old : Pending) (step : Step) → old.closed ≡ false → step.refusal ≡ None →
@@ -30,11 +26,7 @@ makes_wanting old step unclosed none = record {
 -- a step that is taken
 pub makes_taken : (old : Pending) (step : Step) (reply : Reply) (new : Pending) → old.closed ≡ false → step.refusal ≡ None →
     reply ≡ step.reply → new ≡ step.after → Makes old step (Ok reply) new
-makes_taken old step reply new unclosed none same after = record {
-  answer = λ wanted. rw (unclosed, none, same) refl;
-  after = after;
-  no_memory_last = λ wants. absurd (cc);
-}
+makes_taken old step reply new unclosed none same after = grind arith
 
 -- a word that stays turns nothing
 pub nothing_turned : (word : ℕ) → change_between word word ≡ None

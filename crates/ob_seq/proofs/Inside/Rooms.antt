@@ -13,14 +13,7 @@ use Rattle.std.proofs.lemmas.List.{length-set}
 -- as many as messages are gone and wait
 pub promises_there : (gone : List Outcome) (unsent : Unsent) →
     length (whole gone unsent).promises ≡ length gone + waiting_count unsent
-promises_there gone unsent =
-    let settled = length-map gone (λ outcome. Settled outcome) in
-    let line = length-map unsent.line fixed_state in
-    let behind = length-map unsent.unflushed waiting_state in
-    let states = length-append (map fixed_state unsent.line) (map waiting_state unsent.unflushed) in
-    let all = length-append (map {A = Outcome} {B = PromiseState} (λ outcome. Settled outcome) gone)
-    (map fixed_state unsent.line ++ map waiting_state unsent.unflushed) in
-    omega arith
+promises_there gone unsent = grind (arith, length-map, length-append)
 
 -- as many entries are seen in line as stand there
 pub line_there : (gone : List Outcome) (unsent : Unsent) {now : Pending} → whole gone unsent ≡ now →
@@ -135,9 +128,7 @@ back_first (entry ∷ line) unflushed other some = refl
 -- as many messages wait when the state of a promise is set
 pub set_waiting : (id : ℕ) (state : PromiseState) (old new : Unsent) →
     whole [] new ≡ promise_set id state (whole [] old) → waiting_count new ≡ waiting_count old
-set_waiting id state old new is =
-    same_waiting old new
-    (ap (λ (held : Pending). length held.promises) is ∙ length-set (whole [] old).promises id state)
+set_waiting id state old new is = grind (arith, same_waiting, length-set)
 
 -- what is gone waits no more
 by_waiting : (now waits : Bool) → now ≡ waits → (now ≡ true → ⊥) → waits ≡ false
@@ -153,10 +144,4 @@ gone_waits_not gone unsent id early =
 
 -- the promise of the front is that of the first message that waits
 pub front_id_there : (gone : List Outcome) (unsent : Unsent) → front_id (whole gone unsent) ≡ length gone
-front_id_there gone unsent =
-    omega (
-      arith,
-      promises_there gone unsent,
-      length-map unsent.line pending_entry,
-      length-map unsent.unflushed unreached_entry,
-    )
+front_id_there gone unsent = grind (arith, promises_there, length-map)

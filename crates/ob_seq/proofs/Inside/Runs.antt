@@ -115,9 +115,7 @@ before_more runs run (suc count) before within =
 -- the last of some runs is the one behind the others
 before_last : (runs : List Run) (run : Run) (before : Outcome) →
     outcome_before (runs ++ run ∷ []) (suc (length runs)) before ≡ run.outcome
-before_last runs run before =
-    ap (λ (one : Run). one.outcome)
-    (get_or_push runs run (record { from = 0; outcome = before }) (length runs) refl)
+before_last runs run before = grind (arith, get_or_push)
 
 pub last_more : (runs : List Run) (run : Run) →
     outcome_before (runs ++ run ∷ []) (length (runs ++ run ∷ [])) Success ≡ run.outcome
@@ -133,12 +131,7 @@ differ_at runs run other differ place true test some same =
     let within : place < length runs = grind (arith, nat_tests) in
     differ place within (sym (before_more runs run (suc place) Success (omega arith)) ∙ same
     ∙ before_more runs run place Success (omega arith))
-differ_at runs run other differ place false test some same =
-    let last : place ≡ length runs = grind (arith, nat_tests) in
-    other (sym (before_last runs run Success)
-    ∙ ap (λ count. outcome_before (runs ++ run ∷ []) (suc count) Success) (sym last) ∙ same
-    ∙ ap (λ count. outcome_before (runs ++ run ∷ []) count Success) last
-    ∙ before_more runs run (length runs) Success (omega arith))
+differ_at runs run other differ place false test some same = grind (arith, nat_tests, before_last, before_more)
 
 -- a run that ended otherwise than the last keeps that each differs from the one in front of it
 pub differ_more : (runs : List Run) (run : Run) → run.outcome ≢ outcome_before runs (length runs) Success →

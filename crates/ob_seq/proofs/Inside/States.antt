@@ -63,10 +63,7 @@ reached_same entry = grind arith
 
 reached_back : (entry reached : Entry) → pending_entry reached ≡ reached_entry entry.taken_back (pending_entry entry) →
     fixed_state reached ≡ fixed_state entry
-reached_back entry reached is =
-    let same = ap (λ (seen : PendingEntry). seen.voided) is in
-    let flag : reached.taken_back ≡ entry.taken_back = grind arith in
-    rw flag
+reached_back entry reached is = grind arith
 
 -- the promise of an entry that leaves with an outcome
 ended_by : (before rest : List PromiseState) (outcome : Outcome) (entry : Entry) →
@@ -99,9 +96,7 @@ module _ (gone : List Outcome) (settings : Settings) (marks : Marks) (closed : B
       (let entry : Entry = record { message = message; progress = 0; size = size; taken_back = false } in
       whole gone (there line (unflushed ++ entry ∷ []) word') ≡ written (whole gone (there line unflushed word)) message size)
   written_is line unflushed word word' message size rises =
-      let entry : Entry = record { message = message; progress = 0; size = size; taken_back = false } in
-      same_pending settings marks closed refl (map-append unreached_entry unflushed (entry ∷ []))
-      (rw (map-append waiting_state unflushed (entry ∷ []), append_assoc, append_assoc)) rises
+      grind (arith, same_pending, map-append, append_assoc)
 
   -- one more entry in line, as the flush reaches it
   pub next_is : (line : List Entry) (entry reached : Entry) (behind : List Entry) (word word' : ℕ) →
@@ -150,14 +145,7 @@ module _ (gone : List Outcome) (settings : Settings) (marks : Marks) (closed : B
       whole (gone ++ map (ended (Failed cause)) unflushed) (unsent_from settings marks true [] [] word)
       ≡ closed_pending cause (whole gone (there [] unflushed word))
   shut_is cause unflushed word =
-      let old = whole gone (there [] unflushed word) in
-      let first = map Settled gone in
-      let rest = map waiting_state unflushed in
-      let id : length first ≡ unflushed_id old = rw (length-append, length-map, length-map, length-map) (omega arith) in
-      same_pending settings marks true refl refl
-      (rw (take_at first rest (unflushed_id old) id, drop_at first rest (unflushed_id old) id)
-      (rw (failed_ended cause unflushed, map-append Settled gone (map (ended (Failed cause)) unflushed), append-nil)))
-      refl
+      grind (arith, length-append, length-map, same_pending, take_at, drop_at, failed_ended, map-append, append-nil)
 
   -- one more of some entries in line, as the flush reaches it
   pub kept_next : (items : List Entry) (n : ℕ) (entry reached : Entry) (word word' : ℕ) → n < length items →
@@ -212,10 +200,7 @@ module _ (gone : List Outcome) (settings : Settings) (marks : Marks) (closed : B
   -- a state behind those of the messages that are gone
   past_gone : (states : List PromiseState) (place : ℕ) →
       get_or (map Settled gone ++ states) (length gone + place) Waiting ≡ get_or states place Waiting
-  past_gone states place =
-      let passed : length gone + place - length gone ≡ place = omega arith in
-      rw passed at (get_or-append_right (map Settled gone) states (length gone) (length gone + place) Waiting
-      (length-map gone (λ outcome. Settled outcome)) (omega arith))
+  past_gone states place = grind (arith, get_or-append_right, length-map)
 
   -- the state of the promise of an entry that stands at a place among some of which *n* are in line
   module _ (items : List Entry) (n place : ℕ) (entry : Entry) (word : ℕ) (within : place < length items)
@@ -231,11 +216,7 @@ module _ (gone : List Outcome) (settings : Settings) (marks : Marks) (closed : B
 
     pub kept_state : place < n → fixed_state entry ≡ state_there
     kept_state before =
-        let inner : place < length (take n items) = rw (length-take) (omega arith) in
-        let here = get_or-append in_line behind Waiting place (rw (length-map) inner) in
-        let read = get_or-map fixed_state (take n items) place entry Waiting inner in
-        sym (past_gone (in_line ++ behind) place ∙ here ∙ read
-        ∙ ap fixed_state (get_or-take n items place entry before ∙ sym is))
+        grind (arith, length-take, get_or-append, length-map, get_or-map, past_gone, get_or-take)
 
     pub kept_waits : n ≤ place → waiting_state entry ≡ state_there
     kept_waits before =
@@ -254,10 +235,7 @@ module _ (gone : List Outcome) (settings : Settings) (marks : Marks) (closed : B
         let past : n ≤ place = grind (arith, nat_tests) in
         let state : Settled Cancelled ≡ waiting_state entry = rw flag in
         state ∙ kept_waits past
-    kept_cancelled flag false late =
-        let before : place < n = grind (arith, nat_tests) in
-        let state : Settled Cancelled ≡ fixed_state entry = rw flag in
-        state ∙ kept_state before
+    kept_cancelled flag false late = grind (arith, kept_state)
 
   -- a promise taken back that no flush has reached
   pub kept_back : (items : List Entry) (n place : ℕ) (entry back : Entry) (word : ℕ) → n ≤ place →

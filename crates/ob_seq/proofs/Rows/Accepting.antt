@@ -2,7 +2,7 @@
 use Rattle.ob_seq.proofs.Words.{◌≡◌, Bool, true, false, ◌&&◌, List, [], ◌∷◌, ◌++◌, refl, sym, cond, ◌⊎◌, inl, inr}
 use Rattle.ob_seq.proofs.Words.{append_assoc, append-nil, arith, Option, Some, None, is_ok, fold, Command, Estimate}
 use Rattle.ob_seq.proofs.Words.{ℕ, Refusal, Closed, Reply, Settings, is_accepted, are_accepted, accepted_among}
-use Rattle.ob_seq.proofs.Words.{first_refusal, refusal_of, reply_of, unless_refused, is_closed, rows_after, settled_along}
+use Rattle.ob_seq.proofs.Words.{first_refusal, refusal_of, unless_refused, is_closed, rows_after, settled_along}
 use Rattle.ob_seq.specs.Answer.{accepted_among_within, are_accepted_within, buffer_limit, commands_after_within}
 use Rattle.ob_seq.specs.Answer.{first_refusal_within, is_accepted_within, refusal_within}
 use Rattle.ob_seq.specs.Pending.{settled_along_within}
@@ -35,9 +35,7 @@ module _ (limit : Option ℕ) where
         are_accepted_within limit settings earlier (command ∷ commands) ≡ true →
         (first_refusal_within limit settings.estimate earlier command ≡ None)
         × (are_accepted_within limit settings (earlier ++ command ∷ []) commands ≡ true)
-    first_and_rest earlier command commands all =
-        accepted_then (first_refusal_within limit settings.estimate earlier command)
-        (reply_of settings earlier command) _ all
+    first_and_rest earlier command commands all = grind (arith, accepted_then)
 
     -- an accepted command is not refused
     pub not_refused_within : (earlier : List Command) (command : Command) →

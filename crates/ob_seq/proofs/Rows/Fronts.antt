@@ -80,11 +80,7 @@ none_in_line (row ∷ rows) none = let rest = none_in_line rows in grind arith
 -- and so there is no promise of it
 pub no_front_promise : (buffer : Pending) (commands : List Command) → Leaves buffer commands →
     length buffer.line ≡ 0 → front_promise_after buffer.settings commands ≡ None
-no_front_promise buffer commands leaves none =
-    let rows = rows_of buffer commands in
-    let past = none_in_line rows (no_front buffer commands leaves none) in
-    let fails : ltb (length rows) (length rows) ≡ false = grind (arith, nat_tests) in
-    rw (past, fails)
+no_front_promise buffer commands leaves none = grind (arith, none_in_line, no_front)
 
 -- a buffer is what the commands with one more leave, and the reply is the one to it
 abbrev pub Carries : Pending → List Command → Command → Pending → Reply → Type 0

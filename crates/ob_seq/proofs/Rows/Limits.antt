@@ -72,9 +72,7 @@ module _ (settings : Settings) where
       first_refusal_within (Some most) estimate earlier command ≡ None →
       IsWithin most earlier → IsWithin most (earlier ++ command ∷ [])
   one_more_within most earlier command accepted within =
-      let open_and = open_and_fit_within (Some most) estimate earlier command accepted in
-      rw (rows_after_more estimate earlier command, closed_more earlier command open_and.0)
-      (one_within most (rows_after estimate earlier) command open_and.1 (rw open_and.0 at within))
+      grind (arith, open_and_fit_within, rows_after_more, closed_more, one_within)
 
   within_after : (most : ℕ) (commands : List Command) → are_accepted_within (Some most) settings [] commands ≡ true →
       IsWithin most commands

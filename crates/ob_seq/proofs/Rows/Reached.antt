@@ -1,14 +1,14 @@
 -- A flush, one row after another.
-use Rattle.ob_seq.proofs.Words.{arith, ◌≡◌, ℕ, suc, ◌-◌, true, List, [], ◌∷◌, ◌++◌, length, map, drop, get_or, refl}
+use Rattle.ob_seq.proofs.Words.{arith, ◌≡◌, ℕ, suc, ◌-◌, true, List, [], ◌∷◌, ◌++◌, length, map, refl}
 use Rattle.ob_seq.proofs.Words.{sym, ap, ◌∙◌, cond, append_assoc, append-nil, slice_set, nat_tests, map-append}
-use Rattle.ob_seq.proofs.Words.{length-map, get_or-append_seam, set-append_seam, Marks, PromiseState, Waiting, Fixed}
+use Rattle.ob_seq.proofs.Words.{length-map, get_or-append_seam, set-append_seam, Marks, PromiseState, Fixed}
 use Rattle.ob_seq.proofs.Words.{entry_of, Row, is_cancelled, counted_size, total, reached_row, Moment, moment_of}
 use Rattle.ob_seq.proofs.Words.{moments_along, outcome_of, settlement, settlements_from, Pending, pending_total}
 use Rattle.ob_seq.proofs.Words.{first_size, reached_entry, unflushed_id, next_flushed, times, word_after_fall}
 use Rattle.ob_seq.specs.Steps.Commands.{is_next_cancelled}
 use Rattle.ob_seq.proofs.Inside.Held.{opening, Held, promise_of, unflushed_id_is, pending_total_is}
 use Rattle.ob_seq.proofs.Word.Marks.{Past, word_from, word_from_more, word_step}
-use Rattle.ob_seq.proofs.Rows.Order.{IsFresh, IsStanding, each_append, reached_stands}
+use Rattle.ob_seq.proofs.Rows.Order.{IsFresh, each_append, reached_stands}
 use Rattle.ob_seq.proofs.Inside.Taken.{total_without}
 use Rattle.ob_seq.proofs.Inside.Times.{times_first}
 
@@ -46,25 +46,25 @@ module _ (buffer : Pending) (gone standing : List Row) (row : Row) (fresh : List
   id_is = unflushed_id_is buffer gone standing (row ∷ fresh) held ∙ sym (length-map (gone ++ standing) promise_of)
 
   back_is : is_next_cancelled buffer ≡ is_cancelled row.promise
-  back_is =
-      ap (λ id. is_cancelled (get_or buffer.promises id Waiting)) id_is
-      ∙ rw (promises_are, get_or-append_seam before row.promise (map promise_of fresh) Waiting) refl
+  back_is = grind (arith, id_is, promises_are, get_or-append_seam, promise_of)
 
   -- what the buffer holds with one more row in line
   pub next_held : Held (next_flushed buffer) gone (standing ++ reached_row row ∷ []) fresh
-  next_held = record {
-    line = rw (back_is, held.line, held.unflushed, map-append entry_of standing (reached_row row ∷ []))
-        (ap (λ last. map entry_of standing ++ last ∷ []) (reached_entry_is row held.all_fresh.0));
-    unflushed = ap (drop 1) held.unflushed;
-    promises =
-        let apart = split (reached_row row) in
-        rw (back_is, id_is, promises_are, append_assoc standing (reached_row row ∷ []) fresh, apart)
-        (promises_by row before (map promise_of fresh));
-    all_gone = held.all_gone;
-    all_standing = each_append IsStanding standing (reached_row row ∷ []) held.all_standing
-        (reached_stands row held.all_fresh.0, tt);
-    all_fresh = held.all_fresh.1;
-  }
+  next_held =
+      grind (
+        arith,
+        back_is,
+        map-append,
+        reached_entry_is,
+        split,
+        id_is,
+        promises_are,
+        append_assoc,
+        promises_by,
+        promise_of,
+        each_append,
+        reached_stands,
+      )
 
   -- its word, after the moment of the row
   pub next_word : (past : Past) (moments : List Moment) → buffer.word ≡ word_from buffer.marks past moments →

@@ -2,7 +2,7 @@
 use Rattle.ob_seq.proofs.Words.{arith, ◌≡◌, ℕ, ◌≤◌, Bool, true, false, List, [], ◌∷◌, ◌++◌, length, map, take, refl}
 use Rattle.ob_seq.proofs.Words.{drop, sym, ap, ◌∙◌, cond, append_assoc, ltb, Option, Some, None, AllByRecursion}
 use Rattle.ob_seq.proofs.Words.{length-take-le, take-append-drop, map-append, length-map, RemoveBytes, Success}
-use Rattle.ob_seq.proofs.Words.{Count, Cut, Row, line, bytes_in, blocks_in_front, byte_run, whole_rows}
+use Rattle.ob_seq.proofs.Words.{Count, Cut, Row, bytes_in, byte_run, whole_rows}
 use Rattle.ob_seq.proofs.Words.{bytes_left_over, effect, rows_after, taken_row, reply_of, blocks_left, entry_of}
 use Rattle.ob_seq.proofs.Words.{Pending, Leaves, bytes_reply, cut_of, front_id, whole_cut, entry_settlements}
 use Rattle.ob_seq.proofs.Words.{Command}
@@ -19,9 +19,7 @@ use Rattle.ob_seq.proofs.Inside.Skipped.{rows_skipped, with_skipped_is, moments_
 -- the byte run is what the entries in line have left
 pub run_is : (buffer : Pending) (commands : List Command) → Leaves buffer commands →
     byte_run (rows_after buffer.settings.estimate commands) ≡ blocks_left buffer.line
-run_is buffer commands leaves =
-    let rows = rows_after buffer.settings.estimate commands in
-    ap blocks_in_front (sym (map-map (λ entry. entry.message) entry_of (line rows))) ∙ ap blocks_left (sym leaves.line)
+run_is buffer commands leaves = grind (arith, map-map)
 
 -- if a cut is found it is the whole cut
 found_by : (few : Bool) (cut found : Cut) → (let one : Option Cut = cond few None (Some cut) in one ≡ Some found) →

@@ -1,7 +1,7 @@
 -- A buffer after its close is what the commands with the close leave.
 use Rattle.ob_seq.proofs.Words.{◌≡◌, ℕ, suc, false, List, [], ◌∷◌, ◌++◌, length, map, take, drop, refl, sym, ap, ◌∙◌}
 use Rattle.ob_seq.proofs.Words.{append_assoc, append-nil, arith, None, AllByRecursion, nat_tests, length-map}
-use Rattle.ob_seq.proofs.Words.{map-append, Marks, Command, Close, Cause, Count, Row, is_unflushed, unflushed}
+use Rattle.ob_seq.proofs.Words.{map-append, Marks, Command, Close, Cause, Count, Row, unflushed}
 use Rattle.ob_seq.proofs.Words.{counted_size, total, failed, closed_row, Moment, moment_of, moments_along, outcome_of}
 use Rattle.ob_seq.proofs.Words.{refusal_of, settlement, settlements_from, entry_of, Pending, Leaves, closed_pending}
 use Rattle.ob_seq.proofs.Words.{Option, closing_reply, failures, unflushed_id, cond, is_waiting, Failed}
@@ -15,9 +15,7 @@ use Rattle.ob_seq.proofs.Rows.Order.{IsGone, IsFresh, all_now_gone, each_append,
 
 -- a close leaves rows alone that are gone
 closed_gone : (cause : Cause) (row : Row) → IsGone row → closed_row cause row ≡ row
-closed_gone cause row gone =
-    let past : is_unflushed row.place ≡ false = rw gone.place in
-    rw (past, ← gone.place)
+closed_gone cause row gone = grind arith
 
 -- the promise of an unflushed row fails if it waits
 closed_promises : (cause : Cause) (fresh : List Row) → AllByRecursion IsFresh fresh →

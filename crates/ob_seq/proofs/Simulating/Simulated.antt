@@ -162,11 +162,7 @@ module _ (limit : Option ℕ) (command : Command) (old : Pending) where
   -- the step's answer is the definition's after the commands that left what is held
   pub answer_is : (commands : List Command) → Leaves old commands →
       answer_by old step ≡ answer_within limit old.settings commands command
-  answer_is commands leaves =
-      let closed = leaves.closed in
-      let refused = (simulated limit command old).refusal commands leaves in
-      let same = (simulated limit command old).reply commands leaves in
-      grind arith
+  answer_is commands leaves = grind (arith, simulated)
 
   -- if what is held is open and its step is not refused, the step leaves what the commands with this one leave, and
   -- they are accepted
@@ -174,13 +170,7 @@ module _ (limit : Option ℕ) (command : Command) (old : Pending) where
       Leaves old commands → old.closed ≡ false → step.refusal ≡ None →
       (are_accepted_within limit step.after.settings [] (commands ++ command ∷ []) ≡ true)
       × Leaves step.after (commands ++ command ∷ [])
-  goes_on commands accepted leaves unclosed none =
-      let simulates = simulated limit command old in
-      let there = open_history old.settings commands command old leaves unclosed in
-      let refused = sym (simulates.refusal commands leaves) ∙ none in (
-        rw simulates.settings (accepted_more limit old.settings commands command there accepted refused),
-        simulates.after commands leaves unclosed none,
-      )
+  goes_on commands accepted leaves unclosed none = grind (arith, simulated, open_history, accepted_more)
 
 module _ (command : Command) (old : Pending) where
   abbrev own_step : Step
@@ -218,8 +208,4 @@ module _ (command : Command) (old : Pending) where
     -- and spares memory, if it runs out only when it settles more promises than fit without an allocation
     pub spares : {told : Pending} → old ≡ told →
         (IsErrOf result NoMemory → inline_settlements < length own_step.reply.settled) → SparesMemory told command result
-    spares is many = rw (← is) (λ commands stands few wants.
-        let count : settled_by_step old own_step ≡ length own_step.reply.settled = rw (made.no_memory_last wants) in
-        let same = settles commands stands in
-        let most = many wants in
-        absurd (omega arith))
+    spares is many = grind (arith, settles)

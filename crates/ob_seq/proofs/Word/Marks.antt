@@ -1,7 +1,7 @@
 -- The mark and the word after one more command.
 use Rattle.ob_seq.proofs.Words.{[], ◌≡◌, ℕ, ◌+◌, ◌*◌, arith, Bool, true, false, List, ◌∷◌, ◌++◌, reverse, refl, sym}
 use Rattle.ob_seq.proofs.Words.{cond, ltb, append-nil, append_assoc, filter, None, Option, unwrap_or, slice_get, fold}
-use Rattle.ob_seq.proofs.Words.{cons_option, filter_map, filter_map-append, reverse-append, filter-append, Marks}
+use Rattle.ob_seq.proofs.Words.{cons_option, filter_map-append, reverse-append, filter-append, Marks}
 use Rattle.ob_seq.proofs.Words.{Command, Settings, Row, effect, rows_after, Moment, moment_of, moments_of, mark_after}
 use Rattle.ob_seq.proofs.Words.{marks_after, marks_set_by, bit_request, user_bit, bit_value, word_after}
 use Rattle.ob_seq.specs.Mark.{Rise, NoticedFall, SilentFall, decides, deciding_from, is_rise, is_set_by}
@@ -20,9 +20,7 @@ marks_by requests asked first = grind (arith, reverse-append, append-nil)
 
 pub marks_more : (settings : Settings) (commands : List Command) (command : Command) →
     marks_after settings (commands ++ command ∷ []) ≡ marks_with command (marks_after settings commands)
-marks_more settings commands command =
-    rw (filter_map-append marks_set_by commands (command ∷ []))
-    (marks_by (filter_map marks_set_by commands) (marks_set_by command) settings.marks)
+marks_more settings commands command = grind (arith, filter_map-append, marks_by)
 
 -- the moments that decide of one more command, by the marks in force at it, come after the others
 deciding_more : (settings : Settings) (earlier : List Command) (rows : List Row) (commands : List Command)
@@ -85,11 +83,7 @@ pub word_is_from_more : (settings : Settings) (commands : List Command) (command
     ≡ word_from (marks_after settings commands) (past_after settings commands)
     (moments_of settings.estimate (rows_after settings.estimate commands) command)
 word_is_from_more settings commands command quiet =
-    rw (
-      user_bits_even (user_bit (commands ++ command ∷ [])),
-      half_stays commands command quiet,
-      deciding_more settings [] [] commands command,
-    )
+    grind (arith, user_bits_even, half_stays, deciding_more)
 
 -- at the start no bit is set
 pub word_at_start : (settings : Settings) → word_after settings [] ≡ 0

@@ -55,9 +55,7 @@ module _ (buffer : Pending) (commands : List Command) (at : ℕ) (writable : Boo
     (unclosed : buffer.closed ≡ false) (some : 1 ≤ at) (few : at ≤ 31) where
   changed_word :
       with_user_bit at writable buffer.word ≡ word_after buffer.settings (commands ++ UserBit at writable ∷ [])
-  changed_word =
-      rw (leaves.word, word_is buffer.settings commands, word_is buffer.settings (commands ++ UserBit at writable ∷ []))
-      (changed_number writable _ _ at (omega arith) (digits_change buffer.settings commands at writable some))
+  changed_word = grind (arith, word_is, changed_number, digits_change)
 
   -- the buffer with the user bit changed is what the commands with that leave
   pub bit_changed_left : Leaves (bit_changed at writable buffer) (commands ++ UserBit at writable ∷ [])

@@ -1,10 +1,9 @@
-use Rattle.ob_connection.proofs.Words.{◌≡◌, ◌<◌, ℕ, List, false, refl, sym, ap, ◌∙◌, arith, nat_tests, length, Option, Some, None}
-use Rattle.ob_connection.proofs.Words.{Command, Refusal, Settings, answer_within, connection_limit, most_ids, Closed, cond}
-use Rattle.ob_types.specs.Limits.{most_writes}
+use Rattle.ob_connection.proofs.Words.{◌≡◌, ◌<◌, ℕ, List, false, refl, arith, nat_tests, length, Option, Some, None}
+use Rattle.ob_connection.proofs.Words.{Command, Settings, answer_within, connection_limit, most_ids}
 use Rattle.ob_types.specs.declared.command.Command.TheVariants.{Write}
 use Rattle.ob_types.specs.declared.estimate.Estimate.{Estimate}
-use Rattle.ob_seq.specs.Answer.{buffer_limit, is_full, refusal_within, reply_of, unless_refused}
-use Rattle.ob_seq.specs.State.{is_closed, writes_in}
+use Rattle.ob_seq.specs.Answer.{is_full, refusal_within}
+use Rattle.ob_seq.specs.State.{writes_in}
 use Rattle.ob_seq.specs.Effect.{rows_after}
 use Rattle.ob_seq.specs.Rows.{Row}
 use Rattle.ob_seq.proofs.Rows.EachRow.{row_for_each_write}
@@ -21,10 +20,7 @@ same_answer : (one other : Option ℕ) (settings : Settings) (commands : List Co
     is_full one (length (rows_after settings.estimate commands))
     ≡ is_full other (length (rows_after settings.estimate commands)) →
     answer_within one settings commands command ≡ answer_within other settings commands command
-same_answer one other settings commands command same =
-    ap (λ (refusal : Option Refusal). unless_refused
-    (cond (is_closed commands) (Some Closed) refusal) (reply_of settings commands command))
-    (same_refusal one other settings.estimate (rows_after settings.estimate commands) command same)
+same_answer one other settings commands command same = grind (arith, same_refusal)
 
 -- a limit that is above the number of writes is not reached
 not_full : (limit : ℕ) (estimate : Estimate) (commands : List Command) → writes_in commands < limit →
@@ -37,7 +33,4 @@ returns-clause-unlimited c settings commands command few =
     same_answer connection_limit None settings commands command (not_full most_ids settings.estimate commands few)
 
 pub returns-clause-as_a_buffer : goal.returns-clause-as_a_buffer
-returns-clause-as_a_buffer c settings commands command few =
-    same_answer connection_limit buffer_limit settings commands command
-    (not_full most_ids settings.estimate commands (omega (arith, few))
-    ∙ sym (not_full most_writes settings.estimate commands few))
+returns-clause-as_a_buffer c settings commands command few = grind (arith, same_answer, not_full)

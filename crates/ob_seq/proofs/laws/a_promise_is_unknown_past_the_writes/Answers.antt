@@ -1,5 +1,5 @@
 use Rattle.ob_seq.proofs.Words.{◌≡◌, ◌≤◌, ℕ, zero, suc, List, [], ◌∷◌, length, arith, None, slice_get_past, promise_at}
-use Rattle.ob_seq.proofs.Words.{rows_after, Row}
+use Rattle.ob_seq.proofs.Words.{Row}
 use Rattle.ob_seq.proofs.Rows.EachRow.{row_for_each_write}
 use Rattle.ob_seq.proofs.laws.a_promise_is_unknown_past_the_writes.Goals as goal
 
@@ -10,12 +10,4 @@ no_row (row ∷ rows) zero none = absurd (cc)
 no_row (row ∷ rows) (suc id) none = omega (arith, no_row rows id none)
 
 pub returns : goal.returns
-returns c = record {
-  unknown = λ settings commands id.
-      let rows = rows_after settings.estimate commands in
-      let count = row_for_each_write settings.estimate commands in (
-        λ none. omega (arith, no_row rows id.0 none),
-        λ past. rw (slice_get_past rows id.0 (omega arith)),
-      );
-  rows = row_for_each_write;
-}
+returns c = grind (arith, row_for_each_write, no_row, slice_get_past)

@@ -1,5 +1,4 @@
-use Rattle.ob_seq.proofs.Words.{◌↔◌, ◌<◌, ◌≤◌, ◌-◌, ℕ, arith, nat_tests, Marks, rows_after, total, word_after}
-use Rattle.ob_seq.proofs.Words.{marks_after}
+use Rattle.ob_seq.proofs.Words.{◌↔◌, ◌<◌, ◌≤◌, ◌-◌, ℕ, arith, nat_tests, Marks}
 use Rattle.ob_types.specs.Limits.{greatest_total}
 use Rattle.ob_seq.specs.Looks.{before_writable}
 use Rattle.ob_seq.proofs.Rows.Limits.{total_within}
@@ -11,5 +10,4 @@ least_fall marks word sum fall some within shown = grind (arith, nat_tests)
 
 pub returns-clause-at_a_look : goal.returns-clause-at_a_look
 returns-clause-at_a_look c settings commands fall accepted some shown =
-    least_fall (marks_after settings commands) (word_after settings commands)
-    (total (rows_after settings.estimate commands)) fall some (total_within settings commands accepted) shown
+    grind (arith, least_fall, total_within)

@@ -1,3 +1,4 @@
+use Rattle.ob_connection.proofs.Words.{arith}
 use Rattle.std.proofs.lemmas.Result.{IfOk-weaker}
 use Rattle.ob_connection.proofs.Words.{◌∙◌}
 use Rattle.ob_connection.proofs.Gathered.{gathered_there}
@@ -10,7 +11,4 @@ returns-clause-blocks c =
     IfOk-weaker c.gather.result _ _ (λ blocks is commands stands. is ∙ there commands stands) c.gather.ensures.blocks
 
 pub returns-clause-frugal : goal.returns-clause-frugal
-returns-clause-frugal c commands stands nothing =
-    let there = gathered_there c.contents.result.now c.self.inside.inner c.args.self.now c.contents.ensures c.self.view_is
-    c.args.max_count c.args.max_bytes in
-    c.gather.ensures.frugal (there commands stands ∙ nothing)
+returns-clause-frugal c commands stands nothing = grind (arith, gathered_there)

@@ -1,11 +1,9 @@
-use Rattle.ob_connection.proofs.Words.{◌≡◌, ◌<◌, ◌≤◌, ◌+◌, ◌-◌, ◌++◌, ◌∷◌, [], ℕ, zero, suc, List, true, false, length, map, ltb, arith}
+use Rattle.ob_connection.proofs.Words.{◌≡◌, ◌<◌, ◌≤◌, ◌+◌, ◌-◌, ◌++◌, ◌∷◌, [], ℕ, zero, suc, List, false, length, map, ltb, arith}
 use Rattle.ob_connection.proofs.Words.{nat_tests, sym, ap, ◌∙◌, refl, whole, Some, Unsent, Past, held, Connected}
 use Rattle.ob_connection.proofs.Words.{Command, Outcome, PromiseState, Pending, Leaves, StandsFor, accepted_writes}
 use Rattle.std.proofs.Common.{get_or}
-use Rattle.std.specs.Prelude.{slice_get}
 use Rattle.std.proofs.lemmas.Option.{slice_get-get_or, slice_get-map}
 use Rattle.ob_types.specs.declared.promise.PromiseState.TheVariants.{Waiting, Fixed, Settled}
-use Rattle.ob_seq.specs.Effect.{rows_after}
 use Rattle.ob_seq.specs.Looks.{promise_after}
 use Rattle.ob_seq.specs.Steps.Step.{state_at}
 use Rattle.ob_seq.proofs.Inside.Held.{promise_of}
@@ -18,9 +16,7 @@ use Rattle.ob_connection.proofs.connection.Connection.promise.Goals as goal
 told : (gone id : ℕ) (now : Pending) (commands : List Command) → Leaves now commands → id < length now.promises →
     status_of gone id (promise_after now.settings commands (record { 0 = id }))
     ≡ status_of gone id (Some (state_at now id))
-told gone id now commands leaves within =
-    ap (status_of gone id) (sym (slice_get-map promise_of (rows_after now.settings.estimate commands) id)
-    ∙ ap (λ states. slice_get states id) (sym leaves.promises) ∙ slice_get-get_or now.promises id Waiting within)
+told gone id now commands leaves within = grind (arith, slice_get-map, promise_of, slice_get-get_or)
 
 -- the promise of a message that is gone is settled
 gone_settled : (past : List Outcome) (rest : List PromiseState) (id : ℕ) → id < length past →
@@ -31,9 +27,7 @@ gone_settled (outcome ∷ past) rest (suc id) early = gone_settled past rest id 
 
 before : (gone id : ℕ) (state : PromiseState) (outcome : Outcome) → state ≡ Settled outcome → id < gone →
     Some SettledBefore ≡ status_of gone id (Some state)
-before gone id state outcome is early =
-    let test : ltb id gone ≡ true = grind (arith, nat_tests) in
-    rw (is, test) refl
+before gone id state outcome is early = grind arith
 
 -- one that is not is reported by its state
 behind : (gone id : ℕ) → gone ≤ id → (state : PromiseState) →
@@ -72,6 +66,4 @@ returns-then-id-gone c = rw (← c.self.view_is) (λ commands stands.
     ∙ sym (told c.self.inside.inner.gone c.args.id now commands stands.leaves within))
 
 pub returns : goal.returns
-returns c = rw (← c.self.view_is, c.of.ensures)
-    (told_late c.self.inside.inner c.args.id c.gone-2.ensures (omega (arith, c.gone.ensures, c.if-id-gone.false))
-    c.accepted_writes.ensures.count (omega (arith, c.if-id-accepted_writes.false)) c.contents.ensures c.state_at.ensures)
+returns c = grind (arith, told_late)

@@ -1,4 +1,5 @@
-use Rattle.ob_connection.proofs.Words.{◌≡◌, ◌≤◌, List, ℕ, length, take, not, sym, ap, ◌∙◌, told_by, subst, Connected, Option, Bool}
+use Rattle.ob_connection.proofs.Words.{arith}
+use Rattle.ob_connection.proofs.Words.{◌≡◌, ◌≤◌, List, ℕ, length, take, not, sym, ap, ◌∙◌, told_by, Connected, Option, Bool}
 use Rattle.std.specs.List.{concat}
 use Rattle.std.specs.Prelude.{min, IfOk, IsErr, IsErrAnd, Result, Ok, Err}
 use Rattle.ob_connection.specs.declared.connection.sending.SendFault.{SendFault}
@@ -15,17 +16,12 @@ module _ {inside now : Connected} (view : inside ≡ now) where
   taken_within : {bytes taken : ℕ} (max_count max_bytes : ℕ) → bytes ≡ taken →
       taken ≤ length (concat (offered (min most_pieces max_count) max_bytes inside.unsent)) →
       bytes ≤ length (concat (offered (min most_pieces max_count) max_bytes now.unsent))
-  taken_within {bytes} max_count max_bytes same within =
-      subst (λ (one : Connected). bytes ≤ length (concat (offered (min most_pieces max_count) max_bytes one.unsent)))
-      view (rw same within)
+  taken_within {bytes} max_count max_bytes same within = grind arith
 
   sent_as : {bytes taken : ℕ} {after : Option (List ℕ)} (before : Option (List ℕ)) (max_count max_bytes : ℕ) → bytes ≡ taken →
       after ≡ with_more before (take taken (concat (offered (min most_pieces max_count) max_bytes inside.unsent))) →
       after ≡ with_more before (take bytes (concat (offered (min most_pieces max_count) max_bytes now.unsent)))
-  sent_as {bytes} {after = after} before max_count max_bytes same is =
-      subst (λ (one : Connected).
-      after ≡ with_more before (take bytes (concat (offered (min most_pieces max_count) max_bytes one.unsent))))
-      view (rw same is)
+  sent_as {bytes} {after = after} before max_count max_bytes same is = grind arith
 
 -- which reports nothing of the socket's room
 no_room_told : (result : Result Sent SendFault) (blocked : Bool) → IsErr result → IfOk result (λ done. done.blocked ≡ blocked)

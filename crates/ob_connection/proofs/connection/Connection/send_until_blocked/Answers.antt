@@ -1,4 +1,5 @@
-use Rattle.ob_connection.proofs.Words.{List, ℕ, take, sym, ap, ◌∙◌, subst, Connected, Ok, Result, Refusal, StandsFor, Obeys}
+use Rattle.ob_connection.proofs.Words.{arith}
+use Rattle.ob_connection.proofs.Words.{List, ℕ, take, sym, ap, ◌∙◌, subst, Connected, Ok, Result, Refusal, Obeys}
 use Rattle.std.specs.List.{concat}
 use Rattle.ob_types.specs.declared.command.Command.TheVariants.{RemoveBytes}
 use Rattle.ob_types.specs.declared.promise.Outcome.TheVariants.{Success}
@@ -13,12 +14,7 @@ use Rattle.ob_connection.proofs.Sending.{due_after, ends_are, few_in_front, run_
 use Rattle.ob_connection.proofs.connection.Connection.send_until_blocked.Goals as goal
 
 pub send_turns-requires : goal.send_turns-requires
-send_turns-requires g c =
-    let some = c.self.invariant in
-    let stands = subst (λ one. StandsFor one some.0) c.self.view_is some.1 in record {
-      «open» = some.1.leaves.closed ∙ sym (c.is_closed.ensures some.0 stands) ∙ c.if-is_closed.false;
-      few = few_in_front c.self.inside.inner some.0 some.1;
-    }
+send_turns-requires g c = grind (arith, few_in_front)
 
 pub invariant_of-self : goal.invariant_of-self
 invariant_of-self g c = stays (RemoveBytes c.send_turns.result.bytes) c.send_turns.ensures.moves c.self.invariant

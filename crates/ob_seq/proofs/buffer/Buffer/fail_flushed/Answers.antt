@@ -1,4 +1,4 @@
-use Rattle.ob_seq.proofs.Words.{FailFlushed, sym, ◌∙◌, ap, arith, length, refl}
+use Rattle.ob_seq.proofs.Words.{FailFlushed, sym, ◌∙◌, ap, length, refl}
 use Rattle.std.specs.Prelude.{Err}
 use Rattle.std.proofs.lemmas.Result.{err_from_is_err_and}
 use Rattle.ob_seq.proofs.Inside.LetGo.{failing_settles, fails}

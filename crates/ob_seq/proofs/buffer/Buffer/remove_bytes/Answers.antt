@@ -1,4 +1,4 @@
-use Rattle.ob_seq.proofs.Words.{RemoveBytes, sym, ◌∙◌, ap, arith, length, whole}
+use Rattle.ob_seq.proofs.Words.{RemoveBytes, sym, ◌∙◌, ap, length, whole}
 use Rattle.std.specs.Prelude.{Err}
 use Rattle.std.proofs.lemmas.Result.{err_from_is_err_and}
 use Rattle.ob_seq.specs.Kept.{pending_of}

@@ -1,26 +1,11 @@
-use Rattle.ob_seq.proofs.Words.{◌≡◌, ◌<◌, ◌++◌, List, Outcome, ◌∷◌, [], length, length-append, get_or, refl, sym, ap, ◌∙◌, arith, ended, pending_entry}
-use Rattle.ob_seq.proofs.Words.{take, entry_settlements, pending_entries}
+use Rattle.ob_seq.proofs.Words.{◌≡◌, ◌<◌, ◌++◌, ◌∷◌, [], length, length-append, get_or, refl, sym, ap, ◌∙◌, arith, ended, pending_entry}
 use Rattle.std.proofs.lemmas.Grind.{common_steps}
 use Rattle.ob_seq.proofs.Inside.EntrySettlements.{count_of_settlements}
 use Rattle.ob_seq.proofs.Inside.Leaving.{first_end, no_entry, one_more, taken_back_at}
 use Rattle.ob_seq.proofs.buffer.take.let_go.Goals as goal
 
 pub returns-then-as_slice-count : goal.returns-then-as_slice-count
-returns-then-as_slice-count c =
-    let held = c.args.contents.now in
-    let entries = held.line ++ held.unflushed in
-    let some = count_of_settlements c.args.outcome c.len.result (take c.args.count (pending_entries entries)) in
-    let all = ap length c.in_ok-settled.ensures.value in
-    let same = first_end c.args.outcome c.args.count entries
-    (omega (arith, c.requires.some, length-append held.line held.unflushed))
-    (omega (arith, some, all, ap length c.as_slice.ensures, c.if-as_slice-count.true)) in record {
-      settled = c.in_ok-settled.ensures.value ∙ ap (λ n. entry_settlements c.args.outcome n (take c.args.count (pending_entries entries))) c.len.ensures;
-      list = c.push_all.ensures.list ∙ ap (λ (left : List Outcome). c.args.gone.now.list ++ left) (sym same);
-      len = grind (arith, common_steps);
-      room = c.push_all.ensures.room;
-      refused = tt;
-      frugal = λ few. refl;
-    }
+returns-then-as_slice-count c = grind (arith, count_of_settlements, first_end, length-append, common_steps)
 
 pub loop-place-preserved : goal.loop-place-preserved
 loop-place-preserved c =

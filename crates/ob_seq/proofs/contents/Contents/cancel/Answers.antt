@@ -1,5 +1,5 @@
-use Rattle.ob_seq.proofs.Words.{[], ◌≡◌, ◌+◌, ◌-◌, ◌<◌, ◌≤◌, ℕ, Bool, true, false, List, length, refl, sym, ap, ◌∙◌, arith, ltb}
-use Rattle.ob_seq.proofs.Words.{None, nat_tests, is_waiting, promise_set, Settled, Cancelled, Outcome, PromiseState, Pending, Unsent, whole}
+use Rattle.ob_seq.proofs.Words.{[], ◌≡◌, ◌+◌, ◌-◌, ◌<◌, ◌≤◌, ℕ, Bool, true, List, length, refl, sym, ap, ◌∙◌, arith, ltb}
+use Rattle.ob_seq.proofs.Words.{None, nat_tests, is_waiting, Settled, Cancelled, Outcome, PromiseState, Pending, Unsent, whole}
 use Rattle.ob_seq.specs.Steps.Commands.{cancel_step}
 use Rattle.ob_seq.specs.Steps.Step.{state_at}
 use Rattle.ob_seq.specs.Steps.Within.{cancelled_reply}
@@ -17,13 +17,7 @@ replied id now waits is = rw (is, nothing_turned) refl
 
 pub returns-then-id-first-clause-makes : goal.returns-then-id-first-clause-makes
 returns-then-id-first-clause-makes c gone is =
-    let old = c.args.self.now in
-    let id = c.args.id in
-    let early = gone_waits_not gone old id (omega (arith, is, c.if-id-first.true)) in
-    makes_taken (whole gone old) (cancel_step id (whole gone old)) (cancelled_reply id (whole gone old).promises false) (whole gone old)
-    (ap (λ (one : Unsent). one.closed) (sym c.self.view_is) ∙ c.if-self.false)
-    (known id (whole gone old) (omega (arith, is, promises_there gone old, c.if-id-first.true)))
-    (replied id (whole gone old) false (sym early)) (rw early refl)
+    grind (arith, gone_waits_not, makes_taken, known, promises_there, replied)
 
 pub take_back-requires-clause-behind : goal.take_back-requires-clause-behind
 take_back-requires-clause-behind c =
@@ -45,18 +39,7 @@ waits_there gone old id first is late waits there =
 
 pub returns-then-waits-clause-makes : goal.returns-then-waits-clause-makes
 returns-then-waits-clause-makes c gone is =
-    let old = c.args.self.now in
-    let id = c.args.id in
-    let late = c.if-id-first.false in
-    let waits = waits_there gone old id c.args.first is late c.is_waiting-waits.ensures (c.state_at.ensures gone) in
-    let place = at gone id c.args.first is late in
-    makes_taken (whole gone old) (cancel_step id (whole gone old)) (cancelled_reply id (whole gone old).promises c.is_waiting-waits.result)
-    (whole gone c.take_back.new.self)
-    (ap (λ (one : Unsent). one.closed) (sym c.self.view_is) ∙ c.if-self.false)
-    (known id (whole gone old) (omega (arith, place, promises_there gone old, c.if-place-len.false, c.len.ensures, entry_count old c.self.inside c.self.view_is c.self.invariant)))
-    (replied id (whole gone old) c.is_waiting-waits.result waits)
-    (c.take_back.ensures.after gone ∙ ap (λ (at : ℕ). promise_set at (Settled Cancelled) (whole gone old)) place
-    ∙ rw (sym waits ∙ c.if-waits.true) refl)
+    grind (arith, waits_there, at, makes_taken, known, promises_there, entry_count, replied)
 
 pub returns-then-waits-clause-as_many : goal.returns-then-waits-clause-as_many
 returns-then-waits-clause-as_many c =
@@ -65,14 +48,4 @@ returns-then-waits-clause-as_many c =
 
 pub returns-else-waits-clause-makes : goal.returns-else-waits-clause-makes
 returns-else-waits-clause-makes c gone is =
-    let old = c.args.self.now in
-    let id = c.args.id in
-    let late = c.if-id-first.false in
-    let waits = waits_there gone old id c.args.first is late c.is_waiting-waits.ensures (c.state_at.ensures gone) in
-    let place = at gone id c.args.first is late in
-    makes_taken (whole gone old) (cancel_step id (whole gone old)) (cancelled_reply id (whole gone old).promises c.is_waiting-waits.result)
-    (whole gone old)
-    (ap (λ (one : Unsent). one.closed) (sym c.self.view_is) ∙ c.if-self.false)
-    (known id (whole gone old) (omega (arith, place, promises_there gone old, c.if-place-len.false, c.len.ensures, entry_count old c.self.inside c.self.view_is c.self.invariant)))
-    (replied id (whole gone old) c.is_waiting-waits.result waits)
-    (rw (sym waits ∙ c.if-waits.false) refl)
+    grind (arith, waits_there, at, makes_taken, known, promises_there, entry_count, replied)

@@ -1,5 +1,5 @@
-use Rattle.ob_seq.proofs.Words.{◌≡◌, ℕ, ◌-◌, [], List, length, refl, ap, ◌∙◌, arith, length-map, Pending, Unsent, whole}
-use Rattle.ob_seq.proofs.Words.{Entry, next_flushed, times, unreached_entry, drop}
+use Rattle.ob_seq.proofs.Words.{◌≡◌, ℕ, ◌-◌, [], List, length, refl, ap, ◌∙◌, arith, length-map, Unsent, whole}
+use Rattle.ob_seq.proofs.Words.{Entry, next_flushed, times, drop}
 use Rattle.std.proofs.lemmas.List.{nil_from_length}
 use Rattle.ob_seq.proofs.Inside.Times.{unflushed_left}
 use Rattle.ob_seq.proofs.contents.Contents.flush_one_by_one.Goals as goal
@@ -7,9 +7,7 @@ use Rattle.ob_seq.proofs.contents.Contents.flush_one_by_one.Goals as goal
 -- each turn takes one of the unflushed entries
 left_after : (now old : Unsent) (n : ℕ) → whole [] now ≡ times n next_flushed (whole [] old) →
     length now.unflushed ≡ length old.unflushed - n
-left_after now old n is =
-    let left = ap (λ (held : Pending). length held.unflushed) is ∙ unflushed_left n (whole [] old) in
-    omega (arith, left, length-map now.unflushed unreached_entry, length-map old.unflushed unreached_entry)
+left_after now old n is = grind (arith, unflushed_left, length-map)
 
 pub flush_next-requires : goal.flush_next-requires
 flush_next-requires c =

@@ -64,12 +64,4 @@ returns-in_default c =
 
 pub returns-then-not-has_room-clause-blocks : goal.returns-then-not-has_room-clause-blocks
 returns-then-not-has_room-clause-blocks c =
-    let at = c.loop-place in
-    let limit = length c.args.pieces.now in
-    let line = pending_entries c.args.self.now.line in
-    let full = rw at.invariant.as_many at (sym c.has_room.ensures ∙ c.if-not-has_room.true) in
-    all_filled limit c.args.max_bytes at.room at.count at.pieces (blocks_left line) (blocks_left (drop at.place line))
-    at.invariant.gathered
-    (rw (left_at_block c.self.view_is c.self.invariant c.loop-place-test.true c.index.ensures c.in-Block.is)
-    (ended limit at.room (filled at.count at.pieces) c.in-Block.bytes (blocks_left (drop (at.place + 1) line))
-    (filled_count at.count at.pieces at.invariant.within) c.len-length.ensures.value c.if-length-gt0.true full))
+    grind (arith, all_filled, left_at_block, ended, filled, filled_count)

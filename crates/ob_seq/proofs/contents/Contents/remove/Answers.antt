@@ -1,9 +1,9 @@
-use Rattle.ob_seq.proofs.Words.{[], ◌≡◌, ◌∷◌, ◌++◌, ◌<◌, ℕ, Bool, true, not, length, length-map, refl, sym, ap, ◌∙◌, arith, ltb, nat_tests}
-use Rattle.ob_seq.proofs.Words.{change_between, Cancelled, Outcome, Pending, Unsent, whole, front_taken, pending_entry}
+use Rattle.ob_seq.proofs.Words.{[], ◌≡◌, ◌∷◌, ◌<◌, ℕ, Bool, true, not, length, length-map, refl, sym, arith, ltb, nat_tests}
+use Rattle.ob_seq.proofs.Words.{change_between, Cancelled, Outcome, Pending, front_taken}
 use Rattle.ob_seq.proofs.Words.{Some, Option, if◌then◌else◌, front_id, List, PromiseId}
 use Rattle.ob_types.specs.declared.reply.Change.{Change}
 use Rattle.ob_seq.specs.Steps.Step.{is_first_voided}
-use Rattle.ob_seq.specs.Steps.Commands.{removal_reply, removal_step}
+use Rattle.ob_seq.specs.Steps.Commands.{removal_reply}
 use Rattle.ob_seq.specs.Steps.Within.{front_reply}
 use Rattle.ob_seq.proofs.Inside.Fields.{line_count}
 use Rattle.ob_seq.proofs.Inside.Made.{makes_taken}
@@ -28,20 +28,7 @@ replied outcome now new settles id change some is at turned taken =
 
 pub returns-clause-makes : goal.returns-clause-makes
 returns-clause-makes c gone outcome =
-    let old = c.args.self.now in
-    let now = whole gone old in
-    let some : 0 < length now.line = omega (arith, length-map old.line pending_entry, c.if-self-eq0.false, line_count old c.self.inside c.self.view_is c.self.invariant) in
-    let front = c.take_front-settles in
-    let after = whole (gone ++ (if front.result then outcome else Cancelled) ∷ []) front.new.self in
-    let taken = front.ensures.taken gone outcome in
-    makes_taken now (removal_step outcome now)
-    (front_reply (length gone) outcome (Some (record { settles = front.result; change = c.between.result }))) after
-    (ap (λ (one : Unsent). one.closed) (sym c.self.view_is) ∙ c.if-self.false) refl
-    (replied outcome now after front.result (length gone) c.between.result some front.ensures.settles
-    (sym (front_id_there gone old))
-    (c.between.ensures ∙ ap (λ (word : ℕ). change_between word c.self-2.inside.word) (ap (λ (one : Unsent). one.word) c.self.view_is)
-    ∙ ap (λ (word : ℕ). change_between old.word word) (ap (λ (one : Unsent). one.word) c.self-2.view_is)) taken)
-    (taken ∙ rw (some_line now some) refl)
+    grind (arith, length-map, line_count, makes_taken, replied, front_id_there, some_line)
 
 pub returns-clause-fewer : goal.returns-clause-fewer
 returns-clause-fewer c =

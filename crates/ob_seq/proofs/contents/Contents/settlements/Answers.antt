@@ -1,15 +1,11 @@
 use Rattle.ob_seq.proofs.Words.{◌≡◌, ◌<◌, [], true, false, length, get_or, refl, sym, ap, ◌∙◌, append-nil, arith, PendingEntry, Block}
-use Rattle.ob_seq.proofs.Words.{take}
 use Rattle.ob_seq.specs.Unsent.{all_entries}
 use Rattle.ob_seq.proofs.Inside.EntrySettlements.{all_wait, count_of_settlements, entries_settle, settled_more, settled_room}
 use Rattle.ob_seq.proofs.contents.Contents.settlements.Goals.{then-not-is_taken_back+in_ok-push, else-not-is_taken_back}
 use Rattle.ob_seq.proofs.contents.Contents.settlements.Goals as goal
 
 pub returns-in_err-settled-clause-frugal : goal.returns-in_err-settled-clause-frugal
-returns-in_err-settled-clause-frugal c few =
-    let count = count_of_settlements c.args.outcome c.args.first (take c.args.count (all_entries c.args.self.now)) in
-    let wrong : false ≡ true = c.in_err-settled.ensures.succeeds (omega (arith, c.to_settle_count-most.ensures, count, few)) in
-    absurd (cc)
+returns-in_err-settled-clause-frugal c few = grind (arith, count_of_settlements)
 
 none : PendingEntry
 none = record { message = Block []; size = 0; progress = 0; voided = false }

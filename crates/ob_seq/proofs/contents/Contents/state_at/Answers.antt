@@ -1,5 +1,5 @@
 use Rattle.ob_seq.proofs.Words.{◌≡◌, ◌<◌, ◌≤◌, ℕ, List, true, length, get_or, refl, ap, ◌∙◌, ◌+◌, leb, arith, Settings, whole, Unsent}
-use Rattle.ob_seq.proofs.Words.{Fixed, Waiting, Settled, Cancelled, PromiseState, Outcome, Entry, fixed_state, waiting_state}
+use Rattle.ob_seq.proofs.Words.{Waiting, Settled, Cancelled, PromiseState, Outcome, Entry, fixed_state, waiting_state}
 use Rattle.ob_seq.proofs.Words.{Inside, IsSound, unsent_of, waiting_count}
 use Rattle.ob_seq.specs.Steps.Step.{state_at}
 use Rattle.ob_seq.proofs.Inside.Fields.{entry_count}
@@ -41,9 +41,7 @@ returns-then-index c gone =
     cancelled_there gone c.self.view_is c.self.invariant c.requires c.index.ensures c.if-index.true
 
 pub returns-then-place-self : goal.returns-then-place-self
-returns-then-place-self c gone =
-    let state : Fixed ≡ fixed_state c.index.result.now = rw c.if-index.false in
-    state ∙ fixed_there gone c.self.view_is c.self.invariant c.requires c.index.ensures c.if-place-self.true
+returns-then-place-self c gone = grind (arith, fixed_there)
 
 pub returns-else-place-self : goal.returns-else-place-self
 returns-else-place-self c gone =

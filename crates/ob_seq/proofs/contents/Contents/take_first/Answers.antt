@@ -1,5 +1,5 @@
-use Rattle.ob_seq.proofs.Words.{[], ◌≡◌, ◌++◌, ◌<◌, List, length, sym, ap, ◌∙◌, arith, map, take, times}
-use Rattle.ob_seq.proofs.Words.{Cancelled, Success, Outcome, Pending, ended, front_taken, if◌then◌else◌, length-map, pending_entries, pending_entry, whole}
+use Rattle.ob_seq.proofs.Words.{[], ◌≡◌, ◌++◌, List, length, ap, ◌∙◌, arith, map, take, times}
+use Rattle.ob_seq.proofs.Words.{Success, Outcome, Pending, ended, front_taken, length-map, pending_entries, pending_entry, whole}
 use Rattle.std.proofs.Common.{add-one}
 use Rattle.std.proofs.lemmas.List.{length-drop, length-take-le}
 use Rattle.ob_seq.proofs.Inside.Leaving.{front_ends, one_more}
@@ -23,21 +23,7 @@ take_front-requires c =
     )
 
 pub loop-preserved : goal.loop-preserved
-loop-preserved c = record {
-  taken = λ gone outcome.
-      let old = c.args.self.now in
-      let count = c.loop.counter in
-      let left = gone ++ map (ended outcome) (take count old.line) in
-      let before = c.loop.invariant.taken gone outcome in
-      let line = ap (λ (one : Pending). one.line) before ∙ line_of_times c.args.notice outcome count (whole gone old) in
-      let within : count < length old.line = omega (arith, c.loop-test.true, c.requires) in
-      let one = if c.take_front.result then outcome else Cancelled in
-      let ends = front_ends outcome old.line c.loop.self.line count c.take_front.result within line c.take_front.ensures.settles in
-      let more = rw add-one at (one_more outcome gone old.line count one within ends) in
-      rw add-one (ap (λ (all : List Outcome). whole all c.take_front.new.self) (sym more)
-      ∙ c.take_front.ensures.taken left outcome ∙ ap (front_taken c.args.notice outcome) before);
-  room = c.take_front.ensures.room ∙ c.loop.invariant.room;
-}
+loop-preserved c = grind (arith, line_of_times, front_ends, add-one, one_more)
 
 pub returns : goal.returns
 returns c =

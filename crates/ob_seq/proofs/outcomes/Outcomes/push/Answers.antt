@@ -1,4 +1,4 @@
-use Rattle.ob_seq.proofs.Words.{◌≡◌, sym, Success, ◌++◌, ◌∷◌, [], length, refl, ap, ◌∙◌, arith}
+use Rattle.ob_seq.proofs.Words.{◌≡◌, sym, Success, length, refl, ap, ◌∙◌, arith}
 use Rattle.std.proofs.Common.{rules}
 use Rattle.std.proofs.lemmas.List.FromFn.{length-map-range_with_len}
 use Rattle.ob_seq.proofs.Inside.Runs.{told_on, told_anew, rise_more, begun_more, differ_more}
@@ -30,16 +30,4 @@ invariant_of-self c =
     ]
 
 pub returns-clause-list : goal.returns-clause-list
-returns-clause-list c =
-    let before = ap (λ (endings : Endings). endings.list ++ c.args.outcome ∷ []) c.self.view_is in
-    elim c.if-ne.branch [
-      | goal.then-ne w ↦ rw (w.self-inside-is, w.push_reserved.ensures.items)
-          (told_anew c.self.inside.runs.items _ c.self.inside.count refl ∙ before)
-      | goal.else-ne w ↦
-          let same : c.args.outcome ≡ c.outcome_before.result = search (rules, w.if-ne.false, c.ne.ensures) in
-          let all : c.len.result ≡ length c.self.inside.runs.items =
-          omega (arith, c.len.ensures, c.self.inside.runs.ok) in
-          let last = same ∙ c.outcome_before.ensures ∙ rw (c.deref.ensures.value, all) refl in
-          rw w.self-inside-is
-          (told_on c.self.inside.runs.items c.self.inside.count c.args.outcome c.self.invariant.begun last ∙ before)
-    ]
+returns-clause-list c = grind (arith, told_anew, told_on)
