@@ -42,7 +42,7 @@ pub extern "C" fn limekeel_write_block(handle: &mut Handle, block: &mut Block) -
         return Written::of(Err(NO_BLOCK));
     }
     let bytes: &Bytes = block.reach();
-    Written::of(handle.command(|connection| write_shared(connection, bytes)))
+    Written::of(handle.command(|connection| connection.write_shared(bytes)))
 }
 
 /// Writes these bytes where they lie: the message is lent their memory, and no byte is copied.
@@ -70,20 +70,6 @@ pub extern "C" fn limekeel_write_other(handle: &mut Handle, value: u32) -> Writt
     ensures { ObeysFor handle.old.value (Write (AsOther value)) written_reply written_in_c result handle.new.value }
 {
     Written::of(handle.command(|connection| write(connection, Message::Other(value))))
-}
-
-/// Writes these bytes, which the message shares.
-fn write_shared(
-    connection: &mut Connection,
-    bytes: &Bytes,
-) -> Result<ob_connection::Written, Refusal>
-    ensures { Obeys connection.old (Write (AsBlock bytes.now)) written_reply result connection.new }
-{
-    if let Some(refusal) = connection.refusal_of_block(bytes.as_slice()) {
-        return Err(refusal);
-    }
-    let shared = bytes.clone()?;
-    write(connection, Message::Block(shared))
 }
 
 /// A message of bytes that are lent.

@@ -1,16 +1,20 @@
 -- What is asked of a write to a connection.
-use Rattle.ob_connection.proofs.Words.{[], ◌≡◌, ◌∙◌, ℕ, List, length, nat_tests, refl, sym, ap, subst, arith, Past, held, whole}
-use Rattle.ob_connection.proofs.Words.{connection_limit, accepted_writes, Connected, Result, Refusal}
+use Rattle.ob_connection.proofs.Words.{◌≡◌, ◌≤◌, ◌+◌, ℕ, List, length, nat_tests, true, refl, sym, ap, ◌∙◌, subst, arith, Past, held, whole, []}
+use Rattle.ob_connection.proofs.Words.{connection_limit, accepted_writes, most_ids, Connected, Result, Ok, Err, Refusal}
+use Rattle.ob_connection.proofs.Words.{NoMemory, Moves, step_within}
 use Rattle.std.specs.Result.{result_err}
 use Rattle.ob_types.specs.PendingSize.{pending_size_of, pending_size_of_bytes}
 use Rattle.ob_types.specs.declared.command.Command.TheVariants.{Write}
 use Rattle.ob_types.specs.declared.estimate.Estimate.{Estimate}
 use Rattle.ob_types.specs.declared.message.Message.{Message}
 use Rattle.ob_types.specs.declared.message.Message.TheVariants.{Block}
-use Rattle.ob_seq.specs.Steps.Commands.{admitted, asked}
-use Rattle.ob_seq.proofs.Inside.Admitted.{asked_there, first_is}
+use Rattle.ob_seq.specs.Steps.Commands.{asked, has_bytes_left}
+use Rattle.ob_seq.proofs.Inside.Admitted.{asked_there, few, first_is, light, refusal_other, write_wanting}
 use Rattle.ob_connection.specs.Becoming.{IsFirstRefusal}
-use Rattle.ob_connection.proofs.Kept.{ids_are}
+use Rattle.ob_connection.specs.Inside.{admission}
+use Rattle.ob_connection.specs.Obeying.{written_reply}
+use Rattle.ob_connection.proofs.Kept.{ids_are, some_past}
+use Rattle.ob_connection.proofs.Making.{first_refused, made_within}
 
 -- what a block counts goes by how many bytes it has
 pub size_of_block : (estimate : Estimate) (count : ℕ) (bytes : List ℕ) → length bytes ≡ count →
@@ -18,18 +22,36 @@ pub size_of_block : (estimate : Estimate) (count : ℕ) (bytes : List ℕ) → l
 size_of_block estimate count bytes is = grind (arith, nat_tests)
 
 -- what a connection admits is what is asked of the step, whatever outcomes the messages had that are gone
-module _ {inside now : Connected} (view : inside ≡ now) {writes : ℕ} (given : writes ≡ accepted_writes now)
-    (message : Message) {size : Result ℕ Refusal} (counted : size ≡ pending_size_of inside.unsent.settings.estimate message)
-    {result : Result ℕ Refusal} (is : result ≡ admitted connection_limit writes size (whole [] inside.unsent)) where
-  pub ids_there : (past : Past inside) → writes ≡ length (held past).promises
-  ids_there past = given ∙ ap accepted_writes (sym view) ∙ sym (ids_are past)
-
-  pub asked_held : (past : Past inside) → result ≡ asked connection_limit message (held past)
+module _ {now : Connected} (message : Message) {result : Result ℕ Refusal} (is : result ≡ admission now message) where
+  pub asked_held : (past : Past now) → result ≡ asked connection_limit message (held past)
   asked_held past =
-      asked_there connection_limit message (held past) past.outcomes inside.unsent refl (ids_there past) counted is
+      asked_there connection_limit message (held past) past.outcomes now.unsent refl (sym (ids_are past)) refl is
 
   -- so its refusal is the first of the step
   pub first_there : IsFirstRefusal now (Write message) (result_err result)
-  first_there =
-      subst (λ one. IsFirstRefusal one (Write message) (result_err result)) view
-      (λ past. ap result_err (asked_held past) ∙ first_is connection_limit message (held past))
+  first_there past = ap result_err (asked_held past) ∙ first_is connection_limit message (held past)
+
+-- what is refused makes the step of a write
+pub refused_moves : {now : Connected} (message : Message) {refusal : Refusal} → Err refusal ≡ admission now message →
+    Moves now (Write message) written_reply (Err refusal) now
+refused_moves {now} message {refusal} is =
+    first_refused (Write message) written_reply refusal
+    (refusal_other connection_limit message (held (some_past now)) (asked_held message is (some_past now)))
+    (first_there message is)
+
+module _ (now : Connected) (message : Message) {size : ℕ} (is : Ok size ≡ admission now message) where
+  -- and so does what is admitted, and out of memory
+  pub wanting_moves : Moves now (Write message) written_reply (Err NoMemory) now
+  wanting_moves = made_within (step_within connection_limit (Write message)) written_reply refl now.unsent (Err NoMemory)
+      (λ past. write_wanting connection_limit message (held past) (asked_held message is past)) refl
+
+  -- there are ids and bytes left for what is admitted
+  pub ids_left : accepted_writes now + 1 ≤ most_ids
+  ids_left =
+      let past = some_past now in
+      let left = few connection_limit message (held past) (asked_held message is past) in
+      let ids = ids_are past in
+      grind (arith, nat_tests)
+
+  pub bytes_left : has_bytes_left size (whole [] now.unsent) ≡ true
+  bytes_left = light connection_limit message (held (some_past now)) (asked_held message is (some_past now))

@@ -1,6 +1,11 @@
 -- How a connection is kept. No public clause cites this module.
-use Rattle.std.specs.Prelude.{◌≤◌}
-use Rattle.ob_connection.specs.Connected.{Connected, accepted_writes, most_ids}
+use Rattle.std.specs.Prelude.{◌≤◌, ℕ, [], Result}
+use Rattle.ob_types.specs.PendingSize.{pending_size_of}
+use Rattle.ob_types.specs.declared.message.Message.{Message}
+use Rattle.ob_types.specs.declared.refusal.Refusal.{Refusal}
+use Rattle.ob_seq.specs.Steps.Commands.{admitted}
+use Rattle.ob_seq.specs.Unsent.{whole}
+use Rattle.ob_connection.specs.Connected.{Connected, accepted_writes, connection_limit, most_ids}
 use Rattle.ob_connection.specs.declared.inner.Inner.TheInside.{Inside}
 
 -- what a contract sees of what is kept
@@ -10,3 +15,9 @@ connected_of inside = record { unsent = inside.contents; gone = inside.gone }
 -- ids stay within 64 bits
 abbrev pub HasIds : Connected → Type 0
 HasIds connection = accepted_writes connection ≤ most_ids
+
+-- what this message counts, unless anything but lack of memory refuses its write
+abbrev pub admission : Connected → Message → Result ℕ Refusal
+admission connection message =
+    admitted connection_limit (accepted_writes connection) (pending_size_of connection.unsent.settings.estimate message)
+    (whole [] connection.unsent)

@@ -1,18 +1,22 @@
 //! Messages that are written as bytes.
 
-ghost use Rattle.std.specs.Prelude.{◌≡◌, ◌<◌, ℕ, List, length, Some, None, IfSome, OnOk};
+ghost use Rattle.std.specs.Prelude.{◌≡◌, ◌<◌, ℕ, List, length, Ok, Some, None, IfSome, IsErrOf, OnOk};
+ghost use Rattle.std.specs.Result.{result_err};
 ghost use Rattle.ob_types.specs.Limits.{greatest_pending_size};
 ghost use Rattle.ob_types.specs.declared.command.Command.TheVariants.{Write};
 ghost use Rattle.ob_types.specs.declared.message.Message.TheVariants.{Block};
 ghost use Rattle.ob_seq.specs.Unsent.{room_for_one_more};
 ghost use Rattle.ob_connection.specs.Connected.{room_in};
+ghost use Rattle.ob_connection.specs.Inside.{admission};
 ghost use Rattle.ob_connection.specs.Looks.{Refuses};
-ghost use Rattle.ob_connection.specs.Obeying.{Obeys, joined, written_reply};
+ghost use Rattle.ob_connection.specs.Obeying.{Obeys, answer_of_write, joined, written_reply};
 
 use crate::connection::Connection;
+use crate::inner::write::MAX_WRITES;
+use crate::refused::Refused;
 use crate::replies::Written;
 use bytes::Bytes;
-use ob_types::{Message, Refusal};
+use ob_types::{Message, Refusal, pending_size_of_length};
 
 impl Connection {
     /// Adds a copy of these bytes behind all others, as `write` adds a block, and returns its promise. Small messages
@@ -25,11 +29,24 @@ impl Connection {
         ensures obeys { Obeys self.old (Write (Block bytes.now)) written_reply result self.new }
         ensures room { OnOk result (room_in self.new ≡ room_for_one_more self.old.unsent) }
     {
-        if let Some(refusal) = self.refusal_of_block(bytes) {
-            return Err(refusal);
-        }
+        let size = self.admits_block(bytes.len())?;
         let block = self.inner.copy(bytes)?;
-        self.write_block(block)
+        self.put_block(block, size)
+    }
+
+    /// Adds the bytes of a block behind all others, as `write` adds it, and returns its promise: the message shares the
+    /// block, and no byte is copied. Our own.
+    ///
+    /// Refusals are those of `write`, in its order, and come before the block is shared; `NoMemory` comes also if the block
+    /// has more owners than can be counted.
+    #[inline(always)]
+    pub fn write_shared(&mut self, block: &Bytes) -> Result<Written, Refusal>
+        ensures obeys { Obeys self.old (Write (Block block.now)) written_reply result self.new }
+        ensures room { OnOk result (room_in self.new ≡ room_for_one_more self.old.unsent) }
+    {
+        let size = self.admits_block(block.len())?;
+        let shared = block.clone()?;
+        self.put_block(shared, size)
     }
 
     /// Adds a copy of these parts behind all others as one block, one part behind the other, as a header and a body; else
@@ -41,11 +58,9 @@ impl Connection {
         let Some(count) = length_of_parts(parts) else {
             return Err(self.refusal_of_too_long());
         };
-        if let Some(refusal) = self.refusal_of_length(count) {
-            return Err(refusal);
-        }
+        let size = self.admits_block(count)?;
         let block = self.inner.copy_parts(parts, count)?;
-        self.write_block(block)
+        self.put_block(block, size)
     }
 
     /// Why a block is refused that is longer than any message may be.
@@ -61,14 +76,38 @@ impl Connection {
         }
     }
 
-    /// Writes a block, which is let go if it is refused.
+    /// What a block of *n* bytes counts, unless anything but lack of memory refuses its write.
     #[inline(always)]
-    fn write_block(&mut self, block: Bytes) -> Result<Written, Refusal>
+    pub(crate) fn admits_block(&self, n: usize) -> Result<u32, Refusal>
+        ensures admits { (bytes : List ℕ) → length bytes ≡ n → result ≡ admission self.now (Block bytes) }
+        ensures first { (bytes : List ℕ) → length bytes ≡ n → Refuses self.now (Write (Block bytes)) (result_err result) }
+        ensures other { ¬ IsErrOf result Refusal.NoMemory }
+    {
+        let size = pending_size_of_length(n as u64, self.inner.contents.estimate());
+        self.inner
+            .contents
+            .admits(size, self.inner.accepted_writes(), MAX_WRITES)
+    }
+
+    /// Writes a block that is admitted and counts `size`; it is let go if that is refused.
+    #[inline(always)]
+    fn put_block(&mut self, block: Bytes, size: u32) -> Result<Written, Refusal>
+        requires { admission self.old (Block block) ≡ Ok size }
         ensures obeys { Obeys self.old (Write (Block block)) written_reply result self.new }
         ensures room { OnOk result (room_in self.new ≡ room_for_one_more self.old.unsent) }
     {
-        self.write(Message::Block(block))
+        self.put(Message::Block(block), size)
             .map_err(|refused| refused.refusal)
+    }
+
+    /// Writes a message that is admitted and counts `size`.
+    #[inline(always)]
+    fn put(&mut self, message: Message, size: u32) -> Result<Written, Refused>
+        requires { admission self.old message ≡ Ok size }
+        ensures obeys { Obeys self.old (Write message) written_reply (answer_of_write result) self.new }
+        ensures room { OnOk result (room_in self.new ≡ room_for_one_more self.old.unsent) }
+    {
+        self.inner.put(message, size)
     }
 }
 

@@ -9,10 +9,9 @@ ghost use Rattle.ob_connection.specs.Looks.{Refuses, Shows, Tells, unflushed_cou
 ghost use Rattle.ob_seq.specs.State.{writable_after, empty_after, closed_after};
 
 use crate::connection::Connection;
-use crate::inner::write::MAX_WRITES;
 use crate::look::Look;
 use crate::status::Status;
-use ob_types::{Estimate, Refusal, WaterMark, pending_size_of_length};
+use ob_types::{Estimate, Refusal, WaterMark};
 
 impl Connection {
     /// What is pending now. It changes nothing, takes the same few steps whatever is pending, and does not allocate.
@@ -106,11 +105,7 @@ impl Connection {
         ensures first { (bytes : List ℕ) → length bytes ≡ n → Refuses self.now (Write (Block bytes)) result }
         ensures other { ¬ (result ≡ Some Refusal.NoMemory) }
     {
-        let size = pending_size_of_length(n as u64, self.inner.contents.estimate());
-        self.inner
-            .contents
-            .admits(size, self.inner.accepted_writes(), MAX_WRITES)
-            .err()
+        self.admits_block(n).err()
     }
 
     /// What has become of a promise, or nothing if no write was accepted under the id. It takes the same few steps

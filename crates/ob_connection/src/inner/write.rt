@@ -1,10 +1,9 @@
-ghost use Rattle.std.specs.Prelude.{◌≡◌, ◌<◌, ℕ, List, length, IfErr, IfOk, IsErrOf, Some, OnOk, true};
-ghost use Rattle.ob_types.specs.Limits.{greatest_pending_size};
+ghost use Rattle.std.specs.Prelude.{◌≡◌, length, IfErr, IfOk, IsErrOf, Ok, OnOk, true};
 ghost use Rattle.ob_connection.specs.Obeying.{joined, answer_of_write, written_reply};
 ghost use Rattle.ob_types.specs.declared.command.Command.TheVariants.{Write};
-ghost use Rattle.ob_types.specs.declared.message.Message.TheVariants.{Block};
-ghost use Rattle.ob_connection.specs.Becoming.{IsFirstRefusal, Moves};
+ghost use Rattle.ob_connection.specs.Becoming.{Moves};
 ghost use Rattle.ob_connection.specs.Connected.{room_in};
+ghost use Rattle.ob_connection.specs.Inside.{admission};
 ghost use Rattle.ob_seq.specs.Unsent.{room_for_one_more, spares};
 ghost use Rattle.ob_types.specs.declared.refusal.Refusal.TheVariants.{NoMemory};
 
@@ -50,12 +49,32 @@ impl Inner {
         ensures spares { spares self.old.unsent ≡ true → ¬ IsErrOf (answer_of_write result) NoMemory }
         ensures returned { IfErr result (λ refused. refused.message ≡ message) }
     {
+        match self.admits(&message) {
+            Ok(size) => self.put(message, size),
+            Err(refusal) => Err(Refused { refusal, message }),
+        }
+    }
+
+    /// What this message counts, unless anything but lack of memory refuses its write.
+    #[inline(always)]
+    fn admits(&self, message: &Message) -> Result<u32, Refusal>
+        ensures { result ≡ admission self.now message.now }
+    {
+        let size = pending_size(message, self.contents.estimate());
+        self.contents
+            .admits(size, self.accepted_writes(), MAX_WRITES)
+    }
+
+    /// The step of `Connection::write`, of a message that is admitted and counts `size`.
+    #[inline(always)]
+    pub fn put(&mut self, message: Message, size: u32) -> Result<Written, Refused>
+        requires { admission self.old message ≡ Ok size }
+        ensures moves { Moves self.old (Write message) written_reply (answer_of_write result) self.new }
+        ensures room { OnOk result (room_in self.new ≡ room_for_one_more self.old.unsent) }
+        ensures spares { spares self.old.unsent ≡ true → ¬ IsErrOf (answer_of_write result) NoMemory }
+        ensures returned { IfErr result (λ refused. refused.message ≡ message) }
+    {
         let id = self.accepted_writes();
-        let size = pending_size(&message, self.contents.estimate());
-        let size = match self.contents.admits(size, id, MAX_WRITES) {
-            Ok(size) => size,
-            Err(refusal) => return Err(Refused { refusal, message }),
-        };
         let change = match self.contents.add(message, size) {
             Ok(change) => change,
             Err(message) => {

@@ -3,7 +3,7 @@
 use super::{flushed, open, sent, written};
 use bytes::Bytes;
 use ob_connection::Connection;
-use ob_types::{Change, Message, Refusal, WaterMark};
+use ob_types::{Cause, Change, Message, Refusal, WaterMark};
 use std::test::Fail;
 
 /// A message that shares a chunk.
@@ -54,6 +54,36 @@ fn copies_and_parts_are_messages_of_their_bytes(rt: HostRuntime) -> Result<(), F
         )
     );
     drop((connection, bytes));
+    Ok(())
+}
+
+#[test]
+fn a_block_is_shared_by_the_messages_of_its_bytes(rt: HostRuntime) -> Result<(), Fail> {
+    let mut connection = open(rt.alloc())?;
+    let block = Bytes::copy_from_slice(rt.alloc(), b"tick")?;
+    let shared = [
+        connection.write_shared(&block),
+        connection.write_shared(&block),
+    ];
+    let _flushed = connection.flush()?;
+    let bytes = gathered(&connection)?;
+    let _failed = connection.fail_flushed(Cause(1), false)?;
+    let _taken = connection.close(Cause(1))?;
+    assert_eq!(rt;
+        (
+            shared,
+            bytes.as_slice(),
+            block.as_slice(),
+            connection.write_shared(&block)
+        ),
+        (
+            [written(0, None), written(1, None)],
+            b"ticktick".as_slice(),
+            b"tick".as_slice(),
+            Err(Refusal::Closed)
+        )
+    );
+    drop((connection, bytes, block));
     Ok(())
 }
 
@@ -112,7 +142,7 @@ fn marks_in_force_and_refusals_of_a_length(rt: HostRuntime) -> Result<(), Fail> 
     let fits = connection.refusal_of_length(2147483647 - 96);
     let set = connection.marks();
     let overhead = connection.estimate().overhead;
-    let _taken = connection.close(ob_types::Cause(1))?;
+    let _taken = connection.close(Cause(1))?;
     assert_eq!(rt;
         (
             [marks, set],
