@@ -126,6 +126,7 @@ impl Connection {
     /// assert_eq!((written.id, connection.look().total), (0, 3 + 96));
     /// # Ok::<(), limekeel::Refusal>(())
     /// ```
+    #[inline]
     pub fn reserve(&mut self, most: usize) -> Result<Room<'_>, Refusal> {
         Ok(Room::new(self.handle.reserve(most)?, None))
     }

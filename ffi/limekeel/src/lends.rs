@@ -117,6 +117,7 @@ pub(crate) struct Made<'a> {
 
 impl<'a> Made<'a> {
     /// Memory in which a message of at most so many bytes is made.
+    #[inline]
     pub(crate) fn new(lends: Lends<'a>, most: usize) -> Result<Made<'a>, Refusal> {
         lends.lent.reserve(most)?;
         let start = lends.lent.made();
@@ -124,21 +125,25 @@ impl<'a> Made<'a> {
     }
 
     /// How many bytes it may still have.
+    #[inline]
     pub(crate) fn left(&self) -> usize {
         self.most - self.bytes().len()
     }
 
+    #[inline]
     pub(crate) fn bytes(&self) -> &[u8] {
         self.lends.lent.made_from(self.start)
     }
 
     /// Adds as many of these bytes as it may still have, and returns how many.
+    #[inline]
     pub(crate) fn add(&mut self, bytes: &[u8]) -> usize {
         let count = bytes.len().min(self.left());
         self.lends.lent.add(&bytes[..count])
     }
 
     /// Writes it.
+    #[inline]
     pub(crate) fn write(mut self) -> sys::PressedWritten {
         let bytes = self.lends.lent.made_from(self.start);
         let (at, length) = (bytes.as_ptr(), bytes.len());
@@ -154,6 +159,7 @@ impl<'a> Made<'a> {
 }
 
 impl Drop for Made<'_> {
+    #[inline]
     fn drop(&mut self) {
         self.lends.lent.take_back(self.start);
     }

@@ -9,7 +9,7 @@ use std::fmt::{self, Debug, Formatter};
 use std::mem::{replace, take};
 use std::ptr::NonNull;
 
-/// For how many owners room is kept if none is left.
+/// For how many owners more there is room once there was none, and for how many it is kept if none is left.
 const FEW: usize = 8;
 /// How large the second chunk is at least, and each at most that was not asked for larger, in bytes: as in the archive.
 const SMALL: usize = 1024;
@@ -105,19 +105,24 @@ impl Lent {
 
     #[cold]
     fn grow(&mut self) -> Result<(), Refusal> {
-        self.owners.try_reserve(1).map_err(|_| Refusal::NoMemory)
+        self.owners.try_reserve(FEW).map_err(|_| Refusal::NoMemory)
     }
 
     /// Keeps an owner, for which `make_room` made room, under the last promise that has a part in it.
+    #[inline]
     pub(crate) fn keep(&mut self, last: u64, owner: Kept) {
         self.owners.push_back((last, owner));
     }
 
     /// Memory in which `most` bytes are made, behind those that are there.
+    #[inline]
     pub(crate) fn reserve(&mut self, most: usize) -> Result<(), Refusal> {
-        if self.chunk.capacity() - self.chunk.len() >= most {
-            return Ok(());
-        }
+        if self.chunk.capacity() - self.chunk.len() >= most { Ok(()) } else { self.begin_chunk(most) }
+    }
+
+    /// The same in a new chunk.
+    #[cold]
+    fn begin_chunk(&mut self, most: usize) -> Result<(), Refusal> {
         let mut next = Vec::new();
         let refused = |_| Refusal::NoMemory;
         if self.chunk.is_empty() {
@@ -136,16 +141,19 @@ impl Lent {
     }
 
     /// How many bytes the chunk has.
+    #[inline]
     pub(crate) fn made(&self) -> usize {
         self.chunk.len()
     }
 
     /// The bytes from this place on.
+    #[inline]
     pub(crate) fn made_from(&self, start: usize) -> &[u8] {
         &self.chunk[start..]
     }
 
     /// Adds as many of these bytes as there is room for without moving the others, and returns how many.
+    #[inline]
     pub(crate) fn add(&mut self, bytes: &[u8]) -> usize {
         let count = bytes.len().min(self.chunk.capacity() - self.chunk.len());
         self.chunk.extend_from_slice(&bytes[..count]);
@@ -153,6 +161,7 @@ impl Lent {
     }
 
     /// Takes what was made from this place on back, in which no message has a part. A chunk without a message goes.
+    #[inline]
     pub(crate) fn take_back(&mut self, start: usize) {
         if start == 0 {
             drop(take(&mut self.chunk));
@@ -161,6 +170,7 @@ impl Lent {
     }
 
     /// The bytes that were made last are of the message with this promise.
+    #[inline]
     pub(crate) fn keep_made(&mut self, id: u64) {
         self.last = id;
     }

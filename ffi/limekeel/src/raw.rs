@@ -231,6 +231,7 @@ impl Handle {
     }
 
     /// Memory in which a message of at most so many bytes is made.
+    #[inline]
     pub(crate) fn reserve(&mut self, most: usize) -> Result<Made<'_>, Refusal> {
         Made::new(self.lends(), most)
     }

@@ -19,11 +19,13 @@ pub struct Room<'a, Answer = Result<Written, Refusal>> {
 }
 
 impl<'a, Answer> Room<'a, Answer> {
+    #[inline]
     pub(crate) fn new(made: Made<'a>, waiters: Option<&'a Waiters>) -> Room<'a, Answer> {
         Room { made, waiters, answer: PhantomData }
     }
 
     /// How many bytes it has room for besides.
+    #[inline]
     #[must_use]
     pub fn left(&self) -> usize {
         self.made.left()
@@ -33,6 +35,7 @@ impl<'a, Answer> Room<'a, Answer> {
 impl Room<'_> {
     /// Writes what is in it as one message after all else, and copies nothing. It is refused as [`crate::Connection::write`] is, and
     /// then comes to nothing.
+    #[inline]
     pub fn write_message(self) -> Result<Written, Refusal> {
         Written::of(self.made.write().written)
     }
@@ -40,6 +43,7 @@ impl Room<'_> {
 
 impl Room<'_, Pressed<Result<Written, Refusal>>> {
     /// The same within a budget, refused as [`crate::BudgetedConnection::write`] is.
+    #[inline]
     pub fn write_message(self) -> Pressed<Result<Written, Refusal>> {
         self.waiters.expect("it is within a budget").written(self.made.write())
     }
@@ -48,6 +52,7 @@ impl Room<'_, Pressed<Result<Written, Refusal>>> {
 impl<Answer> Deref for Room<'_, Answer> {
     type Target = [u8];
 
+    #[inline]
     fn deref(&self) -> &[u8] {
         self.made.bytes()
     }
@@ -56,6 +61,7 @@ impl<Answer> Deref for Room<'_, Answer> {
 /// It takes as many bytes as there is room for, and none once it is full: then `write_all` ends with
 /// [`io::ErrorKind::WriteZero`].
 impl<Answer> io::Write for Room<'_, Answer> {
+    #[inline]
     fn write(&mut self, bytes: &[u8]) -> io::Result<usize> {
         Ok(self.made.add(bytes))
     }
