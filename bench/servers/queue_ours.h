@@ -5,7 +5,7 @@
 
 uint64_t queue_stops;
 
-#ifndef JOINED
+#ifdef BUDGETED
 /* A write copies, so a message is made where the last one was. */
 static uint8_t message[1u << 20];
 

@@ -80,13 +80,18 @@ impl Client {
         }
     }
 
-    /// Makes a response and writes it.
+    /// Makes a response in place, as a message of its own or as a part of one.
     #[inline]
-    pub fn respond(&mut self, maker: &mut Maker, request: Request, index: u32) -> Result<(), Refusal> {
+    pub fn respond(&mut self, maker: &Maker, request: Request, index: u32) -> Result<(), Refusal> {
+        let size = request.size as usize;
         if IS_JOINED {
-            return self.join(request.size as usize, |answers| maker.make(answers, request, index));
+            return self.join(size, |answers| maker.make(answers, request, index).expect("a list takes all"));
         }
-        self.write(maker.response(request, index))
+        let mut room = self.connection.reserve(size)?;
+        maker.make(&mut room, request, index).expect("it has room for that");
+        let written = room.write_message()?;
+        self.note(written.change);
+        Ok(())
     }
 
     /// Writes a copy of these bytes.

@@ -1,6 +1,7 @@
 //! Requests, responses and the pool of bytes: `protocol.h` says what they are.
 
 use std::collections::VecDeque;
+use std::io::{self, Write};
 use std::mem::take;
 
 pub const GET: u32 = 1;
@@ -74,19 +75,19 @@ impl Maker {
         Maker { pool: words.flat_map(u64::to_le_bytes).collect(), scratch: Vec::with_capacity(MOST) }
     }
 
-    /// Makes response `index` of a request behind what is there.
+    /// Makes response `index` of a request where there is room for it.
     #[inline]
-    pub fn make(&self, to: &mut Vec<u8>, request: Request, index: u32) {
+    pub fn make(&self, to: &mut impl Write, request: Request, index: u32) -> io::Result<()> {
         let from = request.id.wrapping_mul(2654435761).wrapping_add(index.wrapping_mul(40503)) as usize & (WINDOW - 1);
-        to.extend_from_slice(&head(request.id, index, request.size));
-        to.extend_from_slice(&self.pool[from..from + request.size as usize - HEAD]);
+        to.write_all(&head(request.id, index, request.size))?;
+        to.write_all(&self.pool[from..from + request.size as usize - HEAD])
     }
 
     /// Response `index` of a request, where the last one was.
     pub fn response(&mut self, request: Request, index: u32) -> &[u8] {
         let mut scratch = take(&mut self.scratch);
         scratch.clear();
-        self.make(&mut scratch, request, index);
+        self.make(&mut scratch, request, index).expect("a list takes all");
         self.scratch = scratch;
         &self.scratch
     }

@@ -176,7 +176,7 @@ impl Server {
         let response = match request.op {
             GET => {
                 self.stats.responses += 1;
-                return client.respond(&mut self.maker, request, index).is_ok();
+                return client.respond(&self.maker, request, index).is_ok();
             }
             STATS | RESET => {
                 if request.op == RESET {
