@@ -3,3 +3,4 @@ pub mod BadSteps
 pub mod Faultless
 pub mod PlannedSteps
 pub mod Rooms
+pub mod Runs

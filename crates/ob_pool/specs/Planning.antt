@@ -3,3 +3,4 @@ pub mod Plan
 pub mod HandOff
 pub mod PlansFault
 pub mod Checked
+pub mod Runs

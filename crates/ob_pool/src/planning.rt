@@ -42,10 +42,10 @@ pub fn charge_for(estimate: Estimate, task: u32, command: &Command) -> u64
 fn room_of(estimate: Estimate, task: u32, plan: &Plan) -> u64
     ensures { result ≡ room_of estimate task plan.now }
 {
-    let commands = plan.commands.as_slice();
+    let runs = plan.runs.as_slice();
     let mut room = 0;
-    for command in commands {
-        room = room.max(charge_for(estimate, task, command));
+    for run in runs {
+        room = room.max(charge_for(estimate, task, &run.command));
     }
     room
 }
@@ -68,9 +68,17 @@ fn is_planned(command: &Command) -> bool
 fn bad_step(plan: &Plan) -> Option<usize>
     ensures { result ≡ bad_step plan.now }
 {
-    plan.commands
-        .iter()
-        .position(|command| !is_planned(command))
+    // for the proof alone: the steps of a plan can be counted
+    let _all = plan.len();
+    let runs = plan.runs.as_slice();
+    let mut step = 0;
+    for run in runs {
+        if !is_planned(&run.command) {
+            return Some(step);
+        }
+        step += run.count as usize;
+    }
+    None
 }
 
 /// The first bad step of plans.

@@ -1,4 +1,4 @@
-ghost use Rattle.std.specs.Prelude.{◌≡◌, ◌++◌, replicate, IfOk, OnOk};
+ghost use Rattle.std.specs.Prelude.{◌≡◌, ◌++◌, IfOk, OnOk};
 ghost use Rattle.ob_cli.specs.Drive.Script.{commands_of_action, plan_of, plans_in, writer_block, writers_in};
 
 use crate::drive::line::{WriterAction, WriterLine};
@@ -34,25 +34,25 @@ fn count_writers(lines: &[WriterLine]) -> u32
 fn plan(alloc: Global, lines: &[WriterLine], writer: u32) -> Result<Plan, AllocError>
     ensures { IfOk result (λ plan. plan ≡ plan_of lines.now writer) }
 {
-    let mut commands = Vec::new(alloc);
+    let mut plan = Plan::new(alloc);
     for line in lines {
         if u32::from(line.writer) == writer {
-            push_action(alloc, &mut commands, line)?;
+            push_action(alloc, &mut plan, line)?;
         }
     }
-    Ok(Plan { commands })
+    Ok(plan)
 }
 
 /// Adds the commands that a line asks of its writer. The blocks of one line share their memory.
-fn push_action(alloc: Global, plan: &mut Vec<Command>, line: &WriterLine) -> Result<(), AllocError>
-    ensures { OnOk result (plan.new.items ≡ plan.old.items ++ commands_of_action line.now.writer line.now.action) }
+fn push_action(alloc: Global, plan: &mut Plan, line: &WriterLine) -> Result<(), AllocError>
+    ensures { OnOk result (plan.new ≡ plan.old ++ commands_of_action line.now.writer line.now.action) }
 {
     match &line.action {
         WriterAction::Blocks(size, count) => {
             let write = block_write(alloc, line.writer, *size)?;
-            push_copies(plan, &write, *count)
+            plan.push(write, *count)
         }
-        WriterAction::Command(command) => push_copies(plan, command, 1),
+        WriterAction::Command(command) => plan.push(command.copy()?, 1),
     }
 }
 
@@ -62,15 +62,4 @@ fn block_write(alloc: Global, writer: u8, size: u64) -> Result<Command, AllocErr
 {
     let bytes = vec![in alloc; writer; size as usize]?;
     Ok(Command::Write(Message::Block(Bytes::from_vec(bytes)?)))
-}
-
-/// Adds `count` copies of a command.
-fn push_copies(plan: &mut Vec<Command>, command: &Command, count: u32) -> Result<(), AllocError>
-    ensures { OnOk result (plan.new.items ≡ plan.old.items ++ replicate count command.now) }
-{
-    plan.reserve(count as usize)?;
-    for _ in 0..count {
-        plan.push(command.copy()?)?;
-    }
-    Ok(())
 }

@@ -1,30 +1,43 @@
 -- The room that plans need, plan by plan and command by command.
-use Rattle.std.proofs.Common.{◌≡◌, ℕ, suc, ◌+◌, ◌<◌, max, List, [], ◌∷◌, ◌++◌, length, map, take, drop, set, sym, ap}
+use Rattle.std.proofs.Common.{◌≡◌, ℕ, zero, suc, ◌+◌, ◌<◌, max, List, [], ◌∷◌, ◌++◌, length, map, take, drop, set, replicate, sym, ap}
 use Rattle.std.proofs.Common.{ap₂, ◌∙◌, arith, nat_cmp}
 use Rattle.std.specs.Ordering.{ord_max}
+use Rattle.std.specs.List.{All}
 use Rattle.std.specs.Prelude.{slice_index_or}
 use Rattle.std.proofs.lemmas.Bool.Decides.{nat_tests}
-use Rattle.std.proofs.lemmas.List.{drop_more, length-drop, length-map, length-take, map_more, take_more, take_more_set}
+use Rattle.std.proofs.lemmas.List.{drop_more, length-drop, length-map, length-take, map_more, take_more_set}
 use Rattle.std.proofs.lemmas.List.Sums.{sum_by_more}
 use Rattle.ob_types.specs.declared.command.Command.{Command}
 use Rattle.ob_types.specs.declared.estimate.Estimate.{Estimate}
 use Rattle.ob_pool.specs.Planning.HandOff.{charge_for, room_of, rooms_of}
+use Rattle.ob_pool.specs.Planning.Runs.{commands_in_run, commands_of}
+use Rattle.ob_pool.specs.declared.plan.Run.{Run}
+use Rattle.ob_pool.proofs.Plans.Runs.{count_of, runs_more}
 
 module _ (estimate : Estimate) (task : ℕ) where
-  room_push : (plan : List Command) (command : Command) →
-      room_of estimate task (plan ++ command ∷ []) ≡ max (room_of estimate task plan) (charge_for estimate task command)
-  room_push [] command = omega arith
-  room_push (first ∷ plan) command = omega (arith, room_push plan command)
+  -- the room of commands and others behind them
+  room_both : (plan others : List Command) →
+      room_of estimate task (plan ++ others) ≡ max (room_of estimate task plan) (room_of estimate task others)
+  room_both [] others = omega arith
+  room_both (first ∷ plan) others = omega (arith, room_both plan others)
 
-  -- the room of one more command
-  pub room_more : (plan : List Command) (step : ℕ) (command : Command) → step < length plan →
-      command ≡ slice_index_or plan step command →
-      room_of estimate task (take (step + 1) plan)
-      ≡ max (room_of estimate task (take step plan)) (charge_for estimate task command)
-  room_more plan step command within is =
-      ap (room_of estimate task) (take_more plan step command within)
-      ∙ room_push (take step plan) (slice_index_or plan step command)
-      ∙ ap (λ other. max (room_of estimate task (take step plan)) (charge_for estimate task other)) (sym is)
+  -- the room of a run is the charge of its command
+  room_run : (command : Command) (count : ℕ) → 0 < count →
+      room_of estimate task (replicate count command) ≡ charge_for estimate task command
+  room_run command zero some = absurd (omega (arith, some))
+  room_run command (suc zero) some = omega arith
+  room_run command (suc (suc count)) some = omega (arith, room_run command (suc count) (omega arith))
+
+  -- the room of one more run
+  pub room_more : (runs : List Run) (index : ℕ) (run : Run) → All (λ one. 0 < one.count) runs →
+      index < length runs → run ≡ slice_index_or runs index run →
+      room_of estimate task (commands_of (take (index + 1) runs))
+      ≡ max (room_of estimate task (commands_of (take index runs))) (charge_for estimate task run.command)
+  room_more runs index run some within is =
+      let before = commands_of (take index runs) in
+      ap (room_of estimate task) (runs_more runs index run within is)
+      ∙ room_both before (commands_in_run run)
+      ∙ ap (max (room_of estimate task before)) (room_run run.command run.count (count_of runs index run some within is))
 
   -- the room of one more plan, stored at its writer's place
   pub room_stored : (rooms : List ℕ) (plans : List (List Command)) (index writer room : ℕ) (plan : List Command) →

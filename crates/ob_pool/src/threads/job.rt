@@ -89,7 +89,8 @@ impl<L: Named> Job<L> {
             room: _,
         } = self;
         let mut receipts = Vec::new(context.alloc);
-        if receipts.reserve(plan.commands.len()).is_err() {
+        let steps = plan.len();
+        if receipts.reserve(steps).is_err() {
             return JobEnd {
                 lane,
                 done: Err(DriveFault::NoMemory),
@@ -98,10 +99,16 @@ impl<L: Named> Job<L> {
         let writer = share.caller();
         let mut lane = lane;
         let mut so_far = SoFar { share, receipts };
-        'steps: for command in plan.commands {
+        let mut rest = plan.begin();
+        'steps: for step in 0..steps {
+            let Ok(command) = rest.next() else {
+                return JobEnd {
+                    lane,
+                    done: Err(DriveFault::NoMemory),
+                };
+            };
             let SoFar { share, receipts } = so_far;
             let share = heed(rt, context, share, &command);
-            let step = receipts.len();
             if gate.before(rt, writer, step).is_err() {
                 return JobEnd {
                     lane,

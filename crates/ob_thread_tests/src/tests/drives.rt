@@ -86,9 +86,7 @@ fn give(
 /// Makes plans until there are *n*.
 fn widen(alloc: Global, plans: &mut Vec<Plan>, count: usize) -> Result<(), NoAnswer> {
     for _ in plans.len()..count {
-        plans.push(Plan {
-            commands: Vec::new(alloc),
-        })?;
+        plans.push(Plan::new(alloc))?;
     }
     Ok(())
 }
@@ -104,7 +102,7 @@ fn push_to_each(
     let mut told = Ok(());
     for writer in from..to {
         if let Some(plan) = plans.get_mut(writer as usize) {
-            told = told.and(push_times(&mut plan.commands, &command, count));
+            told = told.and(push_times(plan, &command, count));
         }
     }
     drop(command);
@@ -112,14 +110,11 @@ fn push_to_each(
 }
 
 fn push_times(
-    commands: &mut Vec<Command>,
+    plan: &mut Plan,
     command: &Command,
     count: Result<u32, NoAnswer>,
 ) -> Result<(), NoAnswer> {
-    for _ in 0..count? {
-        commands.push(command.copy()?)?;
-    }
-    Ok(())
+    Ok(plan.push(command.copy()?, count?)?)
 }
 
 /// What is to be driven, and what came of it.

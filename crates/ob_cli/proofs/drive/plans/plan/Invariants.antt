@@ -3,4 +3,4 @@ use Rattle.ob_cli.specs.Drive.Script.{plan_of}
 use Rattle.ob_cli.proofs.drive.plans.plan.Given as goal
 
 abbrev pub invariant-loop-line : goal.invariant-loop-line
-invariant-loop-line l = l.commands.items ≡ plan_of (take l.line-index l.lines) l.writer
+invariant-loop-line l = l.plan ≡ plan_of (take l.line-index l.lines) l.writer

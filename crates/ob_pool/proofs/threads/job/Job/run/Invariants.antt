@@ -7,9 +7,10 @@ use Rattle.ob_pool.proofs.threads.job.Job.run.Given as goal
 abbrev pub invariant-steps : goal.invariant-steps
 invariant-steps g l = record {
   lane : IsBack l.fn.lane l.lane;
-  roomy : room_of l.context.estimate l.context.task l.command-iterator.rest.items ≤ l.fn.self.room;
+  roomy : room_of l.context.estimate l.context.task l.rest ≤ l.fn.self.room;
   caller : l.so_far.share.maker.caller ≡ l.fn.self.maker.caller;
   made : l.so_far.share.maker.made ≡ l.fn.self.maker.made + vec_len l.so_far.receipts;
-  commands : commands_in l.so_far.receipts.items ++ l.command-iterator.rest.items ≡ l.fn.self.plan;
-  places : vec_len l.so_far.receipts + length l.command-iterator.rest.items ≤ vec_capacity l.so_far.receipts;
+  commands : commands_in l.so_far.receipts.items ++ l.rest ≡ l.fn.self.plan;
+  left : l.step + length l.rest ≡ l.steps;
+  places : vec_len l.so_far.receipts + length l.rest ≤ vec_capacity l.so_far.receipts;
 }
