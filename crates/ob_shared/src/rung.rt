@@ -1,6 +1,6 @@
 //! How those who wait for a promise are woken.
 
-ghost use Rattle.std.specs.Prelude.{◌≡◌, ◌+◌, ◌<◌, true, cond};
+ghost use Rattle.std.specs.Prelude.{◌≡◌, ◌+◌, ◌<◌, cond};
 ghost use Rattle.ob_shared.specs.Calls.{settles_any};
 
 use ob_types::{Refusal, Reply};
@@ -12,9 +12,10 @@ pub struct Rung {
     pub count: u32,
 }
 
-/// Whether those who wait are to be woken. It cannot be let go, and `pay` alone takes it.
+/// For how many calls those who wait are to be woken. It cannot be let go, and `pay` alone takes it.
+// a whole word, so that a desk has no padding that is moved with it
 pub struct Owed {
-    wakes: bool,
+    calls: u64,
 }
 
 impl Rung {
@@ -39,23 +40,23 @@ impl Rung {
     fn ring(&mut self, owed: &mut Owed)
         requires { self.old.count < 4294967295 }
         ensures rung { self.new.count ≡ self.old.count + 1 }
-        ensures owed { owed.new.wakes ≡ true }
+        ensures owed { 0 < owed.new.calls }
     {
         self.count += 1;
-        owed.wakes = true;
+        owed.calls = owed.calls.saturating_add(1);
     }
 }
 
 impl Owed {
     /// Nobody is to be woken.
     pub fn nothing() -> Owed {
-        Owed { wakes: false }
+        Owed { calls: 0 }
     }
 
     /// Wakes all who wait, if that is owed.
     pub fn pay(self, bell: &Condvar) {
-        let Owed { wakes } = self;
-        if wakes {
+        let Owed { calls } = self;
+        if calls > 0 {
             bell.notify_all();
         }
     }
