@@ -1,4 +1,4 @@
-ghost use Rattle.std.specs.Prelude.{◌≡◌, ◌≢◌, ◌∷◌, ◌++◌, [], length, replicate, IfOk, OnErr, OnOk};
+ghost use Rattle.std.specs.Prelude.{◌≡◌, ◌≢◌, ◌∷◌, ◌++◌, [], drop, length, replicate, OnErr, OnOk};
 
 use ob_types::Command;
 use std::alloc::{AllocError, Global};
@@ -102,21 +102,25 @@ impl Model for Rest {
 }
 
 impl Rest {
-    /// The next command. It fails only if its copy does; then all is left as it was.
-    pub fn next(&mut self) -> Result<Command, AllocError>
-        requires { self.old ≢ [] }
-        ensures next { IfOk result (λ command. self.old ≡ command ∷ self.new) }
-        ensures err { OnErr result (self.new ≡ self.old) }
+    /// The next command.
+    pub fn command(&self) -> &Command
+        requires { self.now ≢ [] }
+        ensures { self.now ≡ result.now ∷ drop 1 self.now }
     {
-        let run = &self.runs[self.at];
-        let command = run.command.copy()?;
-        let left = run.count - self.done;
+        &self.runs[self.at].command
+    }
+
+    /// Goes past the next command.
+    pub fn advance(&mut self)
+        requires { self.old ≢ [] }
+        ensures { self.new ≡ drop 1 self.old }
+    {
+        let left = self.runs[self.at].count - self.done;
         if left > 1 {
             self.done += 1;
         } else {
             self.at += 1;
             self.done = 0;
         }
-        Ok(command)
     }
 }

@@ -1,5 +1,5 @@
 -- The commands of a plan's runs, step by step.
-use Rattle.std.proofs.Common.{◌≡◌, ◌≢◌, ℕ, zero, suc, ◌+◌, ◌<◌, Bool, true, false, List, [], ◌∷◌, ◌++◌, length, drop, take, replicate, refl, sym, ap, ◌∙◌, arith}
+use Rattle.std.proofs.Common.{◌≡◌, ◌≢◌, ℕ, zero, suc, ◌+◌, ◌-◌, ◌<◌, ◌≤◌, Bool, true, false, List, [], ◌∷◌, ◌++◌, length, drop, take, replicate, refl, sym, ap, ◌∙◌, arith}
 use Rattle.std.specs.Prelude.{nat_lt, slice_index_or}
 use Rattle.std.specs.List.{All}
 use Rattle.std.proofs.lemmas.Grind.{flat_map-append}
@@ -8,7 +8,7 @@ use Rattle.std.proofs.lemmas.List.Elements.{All-get_or}
 use Rattle.std.proofs.Math.Seq.{drop-nil}
 use Rattle.std.proofs.lemmas.Bool.Decides.{nat_tests}
 use Rattle.ob_types.specs.declared.command.Command.{Command}
-use Rattle.ob_pool.specs.Planning.Runs.{commands_from, commands_in_run, commands_of}
+use Rattle.ob_pool.specs.Planning.Runs.{IsWithinRun, commands_from, commands_in_run, commands_of}
 use Rattle.ob_pool.specs.declared.plan.Run.{Run}
 
 -- the commands from a run on are its own, and those behind it
@@ -86,3 +86,31 @@ within_of runs at done some = by_test (nat_lt at (length runs)) refl
     by_test true is = grind (arith, nat_tests, is)
     by_test false is =
         absurd (some (ap (λ left. drop done (commands_of left)) (drop_all at runs (grind (arith, nat_tests, is))) ∙ drop-nil done))
+
+-- so the commands that are left are the next one, and those behind it
+pub first_and_rest : (runs : List Run) (at done : ℕ) (run : Run) → at < length runs → run ≡ slice_index_or runs at run →
+    done < run.count → commands_from runs at done ≡ run.command ∷ drop 1 (commands_from runs at done)
+first_and_rest runs at done run within is fewer =
+    let next = next_of runs at done run within is fewer in
+    next ∙ ap (λ others. run.command ∷ others) (sym (ap (drop 1) next))
+
+-- once the next is given, those behind it are left: in the run, if that is not spent
+pub rest_in_run : (runs : List Run) (at done : ℕ) (run : Run) (left : List Command) → at < length runs →
+    run ≡ slice_index_or runs at run → done < run.count → commands_from runs at done ≡ left →
+    commands_from runs at (done + 1) ≡ drop 1 left
+rest_in_run runs at done run left within is fewer same =
+    sym (ap (drop 1) (next_of runs at done run within is fewer)) ∙ ap (drop 1) same
+
+-- and behind it, if it is
+pub rest_behind_run : (runs : List Run) (at done : ℕ) (run : Run) (left : List Command) → at < length runs →
+    run ≡ slice_index_or runs at run → done < run.count → run.count - done ≤ 1 → commands_from runs at done ≡ left →
+    commands_from runs (at + 1) 0 ≡ drop 1 left
+rest_behind_run runs at done run left within is fewer last same =
+    sym (next_run runs at done run within is (omega (arith, fewer, last)))
+    ∙ rest_in_run runs at done run left within is fewer same
+
+-- fewer of a run were given than it has
+pub fewer_in : (runs : List Run) (at done : ℕ) (run : Run) → at < length runs → run ≡ slice_index_or runs at run →
+    IsWithinRun runs at done → done < run.count
+fewer_in runs at done run within is some =
+    omega (arith, some.fewer run within, ap (λ (one : Run). one.count) is)

@@ -49,12 +49,11 @@ struct SoFar<L: Named> {
     receipts: Vec<Receipt>,
 }
 
-/// What a step of a writer begins with: its lane, what it has so far, and the command.
+/// What a step of a writer begins with: its lane, and what it has so far.
 #[derive(Drop)]
 struct Step<L: Named> {
     lane: Lane,
     so_far: SoFar<L>,
-    command: Command,
 }
 
 /// What a step of a writer comes to: its lane, with all its room, and what it has then, or the fault that ended it.
@@ -101,14 +100,9 @@ impl<L: Named> Job<L> {
         let mut so_far = SoFar { share, receipts };
         let mut rest = plan.begin();
         'steps: for step in 0..steps {
-            let Ok(command) = rest.next() else {
-                return JobEnd {
-                    lane,
-                    done: Err(DriveFault::NoMemory),
-                };
-            };
+            let command = rest.command();
             let SoFar { share, receipts } = so_far;
-            let share = heed(rt, context, share, &command);
+            let share = heed(rt, context, share, command);
             if gate.before(rt, writer, step).is_err() {
                 return JobEnd {
                     lane,
@@ -118,12 +112,12 @@ impl<L: Named> Job<L> {
             let begin = Step {
                 lane,
                 so_far: SoFar { share, receipts },
-                command,
             };
             let StepEnd {
                 lane: same,
                 so_far: end,
-            } = one_step(rt, gate, context, begin);
+            } = one_step(rt, gate, context, begin, command);
+            rest.advance();
             lane = same;
             match end {
                 Ok(after) => so_far = after,
@@ -159,24 +153,21 @@ fn one_step<L: Named, R: Wait + Clock, G: Gate>(
     gate: &G,
     context: &Context<L>,
     begin: Step<L>,
+    command: &Command,
 ) -> StepEnd<L>
     requires words { begin.lane.words ≡ context.now.words }
-    requires room { charge_for context.now.estimate context.now.task begin.command ≤ begin.lane.lane.room }
+    requires room { charge_for context.now.estimate context.now.task command.now ≤ begin.lane.lane.room }
     requires numbered { begin.so_far.share.maker.caller < context.now.writers }
     requires read { HasRead begin.so_far.share }
     requires place { vec_len begin.so_far.receipts < vec_capacity begin.so_far.receipts }
     ensures lane { IsBack begin.lane result.lane }
-    ensures call { IfOk result.so_far (λ after. IsOneCall begin.so_far.share begin.command
+    ensures call { IfOk result.so_far (λ after. IsOneCall begin.so_far.share command.now
         begin.so_far.receipts.items after.receipts.items after.share) }
     ensures count { IfOk result.so_far (λ after. vec_len after.receipts ≡ vec_len begin.so_far.receipts + 1) }
     ensures places { IfOk result.so_far (λ after. vec_capacity after.receipts ≡ vec_capacity begin.so_far.receipts) }
     ensures fault { IfErr result.so_far (ComesOfWork context.now.writers) }
 {
-    let Step {
-        lane,
-        so_far,
-        command,
-    } = begin;
+    let Step { lane, so_far } = begin;
     if !matches!(command, Command::Write(_)) {
         return StepEnd {
             lane,
@@ -185,7 +176,7 @@ fn one_step<L: Named, R: Wait + Clock, G: Gate>(
     }
     let writer = so_far.share.caller();
     let step = so_far.receipts.len();
-    let charge = charge_for(context.estimate, context.task, &command) as u32;
+    let charge = charge_for(context.estimate, context.task, command) as u32;
     let mut charged = match lane.charge(rt, &context.words, charge) {
         Ok((charged, _change)) => charged,
         // a lane with room for its plan that owes nothing can be charged with each of its writes
@@ -206,12 +197,12 @@ fn one_call<L: Named, R: Wait>(
     rt: &R,
     context: &Context<L>,
     so_far: SoFar<L>,
-    command: Command,
+    command: &Command,
 ) -> Result<SoFar<L>, DriveFault>
     requires numbered { so_far.share.maker.caller < context.now.writers }
     requires place { vec_len so_far.receipts < vec_capacity so_far.receipts }
     ensures call { IfOk result (λ after.
-        IsOneCall so_far.share command so_far.receipts.items after.receipts.items after.share) }
+        IsOneCall so_far.share command.now so_far.receipts.items after.receipts.items after.share) }
     ensures count { IfOk result (λ after. vec_len after.receipts ≡ vec_len so_far.receipts + 1) }
     ensures places { IfOk result (λ after. vec_capacity after.receipts ≡ vec_capacity so_far.receipts) }
     ensures fault { IfErr result (ComesOfWork context.now.writers) }
@@ -221,6 +212,9 @@ fn one_call<L: Named, R: Wait>(
         mut receipts,
     } = so_far;
     let writer = share.caller();
+    let Ok(command) = command.copy() else {
+        return Err(DriveFault::NoMemory);
+    };
     let mut desk = context.shared.desk(rt, share);
     let answer = desk.keep(command, &mut receipts);
     let share = desk.leave();
