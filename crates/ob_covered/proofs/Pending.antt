@@ -1,5 +1,5 @@
 -- What is pending of a connection after a call, by its look and by the command.
-use Rattle.std.proofs.Common.{◌≡◌, ℕ, ◌+◌, ◌*◌, ◌≤◌, Bool, true, false, List, [], ◌∷◌, ◌++◌, if◌then◌else◌, sym, refl, ap, ◌∙◌, subst, arith}
+use Rattle.std.proofs.Common.{◌≡◌, ℕ, ◌≤◌, Bool, true, false, List, [], ◌∷◌, ◌++◌, if◌then◌else◌, sym, refl, ap, ◌∙◌, subst, arith}
 use Rattle.std.specs.Prelude.{Result, Ok, Err, is_ok, Option, IfOk, OnErr}
 use Rattle.std.proofs.lemmas.List.Sums.{fold-append}
 use Rattle.ob_types.specs.Write.{is_write}
@@ -22,8 +22,7 @@ use Rattle.ob_connection.specs.declared.connection.sending.Sent.{Sent}
 use Rattle.ob_connection.specs.declared.replies.SentTurns.{SentTurns}
 use Rattle.ob_connection.specs.declared.replies.Taken.{Taken}
 use Rattle.ob_connection.specs.declared.look.Look.{Look}
-use Rattle.ob_covered.specs.Budgeted.{BudgetedValue, pending, IsPending, IsWithin, IsThrifty}
-use Rattle.ob_covered.specs.Cover.{CoverValue, HoldsAtMost}
+use Rattle.ob_covered.specs.Budgeted.{pending, IsPending, IsWithin}
 
 -- a look shows what is pending
 pub shown : (connection : Connected) (look : Look) → Shows connection look → IsPending connection look.total
@@ -54,17 +53,6 @@ falls old new command tell result held now other some within obeys is =
     is _ (obeys.stands some.0 some.1)
     ∙ ap (λ s. pending s (if is_ok result then some.0 ++ command ∷ [] else some.0)) obeys.settings in
     omega (arith, after, fell, within some.0 some.1)
-
--- what a settled cover may hold beside what a look shows
-pub thrifty : (old value : BudgetedValue) (new : CoverValue) {connection : Connected} (look : Look) (bytes : ℕ) → Shows connection look
-    → bytes ≡ look.total → old ≡ value → HoldsAtMost (bytes + 2 * new.quantum) old.cover new
-    → IsThrifty value (record { connection = connection; cover = new })
-thrifty old value new {connection = connection} look bytes shows same is spare =
-    subst (λ o. IsThrifty o (record { connection = connection; cover = new })) is (record {
-      now = look.total;
-      is_pending = shown connection look shows;
-      spare = subst (λ n. HoldsAtMost (n + 2 * new.quantum) old.cover new) same spare;
-    })
 
 -- a command that is no write, after one history
 falls_one : {A : Type 0} (old new : Connected) (command : Command) (tell : List PromiseState → A → Reply)

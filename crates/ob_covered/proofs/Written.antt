@@ -1,5 +1,5 @@
 -- What is pending of a connection after a write that the budget let through.
-use Rattle.std.proofs.Common.{◌≡◌, ℕ, ◌+◌, ◌≤◌, Bool, true, false, [], ◌∷◌, ◌++◌, if◌then◌else◌, sym, ap, ◌∙◌, subst, arith}
+use Rattle.std.proofs.Common.{◌≡◌, ℕ, ◌+◌, ◌≤◌, Bool, true, false, [], ◌∷◌, ◌++◌, if◌then◌else◌, sym, refl, ap, ◌∙◌, subst, arith}
 use Rattle.std.specs.Prelude.{Result, Ok, Err, IfErr, OnOk}
 use Rattle.std.proofs.lemmas.List.Sums.{fold-append, sum_by_push}
 use Rattle.ob_types.specs.PendingSize.{counted_bytes, is_oversize, pending_size_of}
@@ -15,7 +15,7 @@ use Rattle.ob_connection.specs.Looks.{Shows}
 use Rattle.ob_connection.specs.Obeying.{Obeys, written_reply}
 use Rattle.ob_connection.specs.declared.look.Look.{Look}
 use Rattle.ob_connection.specs.declared.replies.Written.{Written}
-use Rattle.ob_covered.specs.Budgeted.{pending, IsPending, IsWithin, IsNotPut, accepted}
+use Rattle.ob_covered.specs.Budgeted.{BudgetedValue, pending, IsPending, IsWithin, IsNotPut, IsNotWritten, accepted}
 use Rattle.ob_covered.specs.Cover.{CoverValue, TakesSparingly}
 use Rattle.ob_covered.specs.declared.fault.WriteFault.{WriteFault}
 use Rattle.ob_covered.specs.declared.fault.WriteFault.TheVariants.{Refused, OverBudget}
@@ -71,3 +71,19 @@ pub spares : (old : Connected) (now seen size needed : ℕ) (before after : Cove
 spares old now seen size needed before after some is shows needs sparing =
     let same : now ≡ seen = is some.0 some.1 ∙ sym (shows some.0 some.1) in
     subst (λ n. TakesSparingly n before after) (needs ∙ ap (λ n. n + size) (sym same)) sparing
+
+-- a cover that stays as it is takes nothing
+pub takes_nothing : (needed : ℕ) (cover : CoverValue) → TakesSparingly needed cover cover
+takes_nothing needed cover = record { enough = λ enough. refl; lacking = λ less. omega arith }
+
+-- what the connection refused within a budget that let it through is no fault of the budget
+refused_one : (old new : BudgetedValue) (message : Message) (why : WriteFault)
+    → IsNotPut old.connection message why new.connection → IsNotWritten old message why new
+refused_one old new message (Refused refusal) not = not
+refused_one old new message (OverBudget fault) not = absurd not
+
+pub refused_as : {E : Type 0} (why : E → WriteFault) (old new : BudgetedValue) (message : Message) (result : Result Written E)
+    → IfErr result (λ not. IsNotPut old.connection message (why not) new.connection)
+    → IfErr result (λ not. IsNotWritten old message (why not) new)
+refused_as why old new message (Ok written) refused = refused
+refused_as why old new message (Err not) refused = refused_one old new message (why not) refused

@@ -9,6 +9,7 @@ mod copying;
 mod giving_up;
 mod renewing;
 mod sending;
+mod settled;
 mod write;
 
 use crate::cover::Cover;

@@ -1,4 +1,4 @@
-ghost use Rattle.std.specs.Prelude.{◌≡◌, ◌≤◌, ◌+◌, ◌*◌, IfOk, IfErr, OnErr, None, Option};
+ghost use Rattle.std.specs.Prelude.{◌≡◌, ◌≤◌, ◌<◌, ◌+◌, ◌*◌, IfOk, IfErr, OnErr, None, Option};
 ghost use Rattle.std.specs.Arc.{arc_value};
 ghost use Rattle.ob_covered.specs.Cover.{CoverValue, Tells, IsShort, HoldsAtMost, TakesSparingly};
 ghost use Rattle.ob_covered.specs.Inside.{cover_of, IsCover};
@@ -58,6 +58,7 @@ impl Cover {
     /// Lets the seat hold this many bytes at least, and returns the turn of pressure that this made. It takes what it lacks,
     /// or the quantum, and nothing if it holds as many. The fault is that of a raise by what it lacked; then it holds what
     /// it held.
+    #[inline(always)]
     pub fn take(&mut self, needed: u64) -> Result<Option<Pressure>, RaiseFault>
         ensures covered { IfOk result (λ _. needed ≤ self.new.seat.account.held) }
         ensures no_less { self.old.seat.account.held ≤ self.new.seat.account.held }
@@ -66,11 +67,25 @@ impl Cover {
         ensures untold { OnErr result (Tells self.old None self.new) }
         ensures short { IfErr result (λ fault. IsShort needed fault self.old self.new) }
     {
-        let held = self.seat.held();
-        if needed <= held {
+        if needed <= self.seat.held() {
             return Ok(None);
         }
-        let lacks = needed - held;
+        self.raise(needed)
+    }
+
+    /// The same of a seat that holds less: most writes find the quantum.
+    #[cold]
+    #[inline(never)]
+    fn raise(&mut self, needed: u64) -> Result<Option<Pressure>, RaiseFault>
+        requires { self.old.seat.account.held < needed }
+        ensures covered { IfOk result (λ _. needed ≤ self.new.seat.account.held) }
+        ensures no_less { self.old.seat.account.held ≤ self.new.seat.account.held }
+        ensures sparing { TakesSparingly needed self.old self.new }
+        ensures told { IfOk result (λ told. Tells self.old told self.new) }
+        ensures untold { OnErr result (Tells self.old None self.new) }
+        ensures short { IfErr result (λ fault. IsShort needed fault self.old self.new) }
+    {
+        let lacks = needed - self.seat.held();
         if lacks >= self.quantum {
             return self.seat.raise(&self.budget, lacks);
         }
@@ -81,6 +96,8 @@ impl Cover {
     }
 
     /// Lets the seat hold just this many bytes, if others do not come in between too often.
+    #[cold]
+    #[inline(never)]
     pub fn keep(&mut self, bytes: u64) -> Option<Pressure>
         requires { bytes ≤ self.old.seat.account.held }
         ensures covered { bytes ≤ self.new.seat.account.held }
@@ -98,6 +115,7 @@ impl Cover {
     }
 
     /// Gives back what is spare above two quanta beside these bytes, down to one.
+    #[inline(always)]
     pub fn settle(&mut self, bytes: u64) -> Option<Pressure>
         requires { bytes ≤ self.old.seat.account.held }
         ensures covered { bytes ≤ self.new.seat.account.held }

@@ -11,6 +11,7 @@ ghost use Rattle.ob_covered.specs.Budgeted.{IsThrifty};
 ghost use Rattle.ob_covered.specs.Cover.{Tells};
 
 use super::Budgeted;
+use super::settled::settled;
 use crate::fault::Told;
 use ob_connection::{Flushed, Removed, Taken};
 use ob_types::{Cause, Change, Refusal, WaterMark};
@@ -26,9 +27,7 @@ impl Budgeted {
     {
         self.connection.stands_for_some_commands();
         let answer = self.connection.flush();
-        let pending = u64::from(self.connection.look().total);
-        let pressure = self.cover.settle(pending);
-        Told { answer, pressure }
+        settled(&self.connection, &mut self.cover, answer)
     }
 
     /// As `Connection::remove`.
@@ -41,9 +40,7 @@ impl Budgeted {
     {
         self.connection.stands_for_some_commands();
         let answer = self.connection.remove();
-        let pending = u64::from(self.connection.look().total);
-        let pressure = self.cover.settle(pending);
-        Told { answer, pressure }
+        settled(&self.connection, &mut self.cover, answer)
     }
 
     /// As `Connection::remove_with`.
@@ -56,9 +53,7 @@ impl Budgeted {
     {
         self.connection.stands_for_some_commands();
         let answer = self.connection.remove_with(cause);
-        let pending = u64::from(self.connection.look().total);
-        let pressure = self.cover.settle(pending);
-        Told { answer, pressure }
+        settled(&self.connection, &mut self.cover, answer)
     }
 
     /// As `Connection::take_sent`.
@@ -72,9 +67,7 @@ impl Budgeted {
     {
         self.connection.stands_for_some_commands();
         let answer = self.connection.take_sent(n);
-        let pending = u64::from(self.connection.look().total);
-        let pressure = self.cover.settle(pending);
-        Told { answer, pressure }
+        settled(&self.connection, &mut self.cover, answer)
     }
 
     /// As `Connection::progress`.
@@ -87,9 +80,7 @@ impl Budgeted {
     {
         self.connection.stands_for_some_commands();
         let answer = self.connection.progress(n);
-        let pending = u64::from(self.connection.look().total);
-        let pressure = self.cover.settle(pending);
-        Told { answer, pressure }
+        settled(&self.connection, &mut self.cover, answer)
     }
 
     /// As `Connection::cancel`.
@@ -102,9 +93,7 @@ impl Budgeted {
     {
         self.connection.stands_for_some_commands();
         let answer = self.connection.cancel(id);
-        let pending = u64::from(self.connection.look().total);
-        let pressure = self.cover.settle(pending);
-        Told { answer, pressure }
+        settled(&self.connection, &mut self.cover, answer)
     }
 
     /// As `Connection::fail_flushed`.
@@ -119,9 +108,7 @@ impl Budgeted {
     {
         self.connection.stands_for_some_commands();
         let answer = self.connection.fail_flushed(cause, notify);
-        let pending = u64::from(self.connection.look().total);
-        let pressure = self.cover.settle(pending);
-        Told { answer, pressure }
+        settled(&self.connection, &mut self.cover, answer)
     }
 
     /// As `Connection::close`.
@@ -136,9 +123,7 @@ impl Budgeted {
     {
         self.connection.stands_for_some_commands();
         let answer = self.connection.close(cause);
-        let pending = u64::from(self.connection.look().total);
-        let pressure = self.cover.settle(pending);
-        Told { answer, pressure }
+        settled(&self.connection, &mut self.cover, answer)
     }
 
     /// As `Connection::user_bit`.
@@ -151,9 +136,7 @@ impl Budgeted {
     {
         self.connection.stands_for_some_commands();
         let answer = self.connection.user_bit(index, writable);
-        let pending = u64::from(self.connection.look().total);
-        let pressure = self.cover.settle(pending);
-        Told { answer, pressure }
+        settled(&self.connection, &mut self.cover, answer)
     }
 
     /// As `Connection::set_marks`.
@@ -166,8 +149,6 @@ impl Budgeted {
     {
         self.connection.stands_for_some_commands();
         let answer = self.connection.set_marks(marks);
-        let pending = u64::from(self.connection.look().total);
-        let pressure = self.cover.settle(pending);
-        Told { answer, pressure }
+        settled(&self.connection, &mut self.cover, answer)
     }
 }

@@ -6,6 +6,7 @@ ghost use Rattle.ob_covered.specs.Budgeted.{IsThrifty};
 ghost use Rattle.ob_covered.specs.Cover.{Tells};
 
 use super::Budgeted;
+use super::settled::settled;
 use crate::fault::Told;
 use ob_connection::Taken;
 use ob_types::{Cause, Refusal};
@@ -23,8 +24,6 @@ impl Budgeted {
     {
         self.connection.stands_for_some_commands();
         let answer = self.connection.give_up(cause);
-        let pending = u64::from(self.connection.look().total);
-        let pressure = self.cover.settle(pending);
-        Told { answer, pressure }
+        settled(&self.connection, &mut self.cover, answer)
     }
 }

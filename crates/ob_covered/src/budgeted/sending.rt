@@ -8,6 +8,7 @@ ghost use Rattle.ob_covered.specs.Budgeted.{IsThrifty};
 ghost use Rattle.ob_covered.specs.Cover.{Tells};
 
 use super::Budgeted;
+use super::settled::settled;
 use crate::fault::Told;
 use ob_connection::{SendFault, Sent, SentTurns, Socket};
 
@@ -30,9 +31,7 @@ impl Budgeted {
     {
         self.connection.stands_for_some_commands();
         let answer = self.connection.send_once(socket, max_count, max_bytes);
-        let pending = u64::from(self.connection.look().total);
-        let pressure = self.cover.settle(pending);
-        Told { answer, pressure }
+        settled(&self.connection, &mut self.cover, answer)
     }
 
     /// As `Connection::send_until_blocked`. The cover is settled once, after the last turn.
@@ -58,8 +57,6 @@ impl Budgeted {
         let answer = self
             .connection
             .send_until_blocked(socket, max_turns, max_bytes);
-        let pending = u64::from(self.connection.look().total);
-        let pressure = self.cover.settle(pending);
-        Told { answer, pressure }
+        settled(&self.connection, &mut self.cover, answer)
     }
 }

@@ -1,21 +1,12 @@
-use Rattle.std.proofs.Common.{refl, arith}
+use Rattle.std.proofs.Common.{refl, sym, ap}
 use Rattle.ob_types.specs.declared.command.Command.TheVariants.{RemoveBytes}
 use Rattle.ob_connection.specs.Obeying.{taken_reply}
-use Rattle.ob_covered.proofs.Pending.{falls, shown, thrifty}
+use Rattle.ob_covered.proofs.Pending.{falls}
 use Rattle.ob_covered.proofs.budgeted.Budgeted.take_sent.Goals as goal
 
-pub settle-pressure-requires : goal.settle-pressure-requires
-settle-pressure-requires c =
-    let now = shown c.take_sent-answer.new.self c.look.result c.look.ensures in
-    omega (
-      arith,
-      c.from-pending.ensures,
-      falls c.self.inside.connection c.take_sent-answer.new.self (RemoveBytes c.args.n) taken_reply c.take_sent-answer.result
-          c.self.inside.cover.seat.account.held c.look.result.total refl c.stands_for_some_commands.ensures c.self.invariant
-          c.take_sent-answer.ensures.obeys now,
-    )
+pub settled-requires : goal.settled-requires
+settled-requires c now is =
+    falls c.self.inside.connection c.take_sent-answer.new.self (RemoveBytes c.args.n) taken_reply c.take_sent-answer.result c.self.inside.cover.seat.account.held now refl c.stands_for_some_commands.ensures c.self.invariant c.take_sent-answer.ensures.obeys is
 
 pub returns-clause-thrifty : goal.returns-clause-thrifty
-returns-clause-thrifty c =
-    thrifty _ _ c.settle-pressure.new.self c.look.result c.from-pending.result c.look.ensures c.from-pending.ensures
-    c.self.view_is c.settle-pressure.ensures.thrifty
+returns-clause-thrifty c = c.settled.ensures.thrifty c.args.self.now (ap (λ v. v.cover) (sym c.self.view_is))
