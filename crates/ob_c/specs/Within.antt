@@ -11,7 +11,7 @@ use Rattle.ob_connection.specs.Connected.{Connected}
 use Rattle.ob_connection.specs.declared.replies.Written.{Written as WrittenReply}
 use Rattle.ob_covered.specs.Cover.{CoverValue, left_of}
 use Rattle.ob_covered.specs.declared.fault.Told.{Told}
-use Rattle.ob_shared_connection.specs.Calls.{Putting, ThenFlushes}
+use Rattle.ob_shared_connection.specs.Calls.{IsUncovered, Putting, ThenFlushes}
 use Rattle.ob_shared_connection.specs.Covering.{ActsBy}
 use Rattle.ob_shared_connection.specs.Handles.{IsFirst}
 use Rattle.ob_shared_connection.specs.Values.{HandleValue, Held}
@@ -41,20 +41,20 @@ with_nothing (Ok answer) = Ok answer
 with_nothing (Err fault) = Err (record { fault = fault; act = tt })
 
 -- under the lock a call was made that the budget covers, or it was not since the budget does not cover it
-abbrev pub DoesWithin : {A E : Type 0} → (Connected → Result A E → Connected → Type 0) → List Command
+abbrev pub DoesWithin : {A E : Type 0} → (E → Type 0) → (Connected → Result A E → Connected → Type 0) → List Command
     → Told (Result (Result A E) RaiseFault) → Held → Held → Type 0
-DoesWithin Does commands told before after =
-    ActsBy Does commands tt before (with_nothing told.answer) told.pressure after
+DoesWithin Uncovered Does commands told before after =
+    ActsBy Uncovered Does commands tt before (with_nothing told.answer) told.pressure after
 
 -- a message is written so
 abbrev pub PutsWithin : Message → Told (Result (Result WrittenReply WriteFault) RaiseFault) → Held → Held → Type 0
-PutsWithin message told before after = DoesWithin (Putting message) (Write message ∷ []) told before after
+PutsWithin message told before after = DoesWithin IsUncovered (Putting message) (Write message ∷ []) told before after
 
 -- and flushed behind it
 abbrev pub PutsAndFlushesWithin : Message → Told (Result (Result WrittenAndFlushedReply WriteFault) RaiseFault) → Held → Held
     → Type 0
 PutsAndFlushesWithin message told before after =
-    DoesWithin (ThenFlushes (Putting message)) (Write message ∷ Flush ∷ []) told before after
+    DoesWithin IsUncovered (ThenFlushes (Putting message)) (Write message ∷ Flush ∷ []) told before after
 
 -- the status of a write that the budget did not cover
 abbrev pub raise_number : RaiseFault → ℕ

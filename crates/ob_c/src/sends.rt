@@ -6,7 +6,7 @@ ghost use Rattle.ob_types.specs.declared.command.Command.TheVariants as command;
 ghost use Rattle.ob_types.specs.declared.promise.Outcome.TheVariants.{Failed, Success};
 ghost use Rattle.ob_connection.specs.Calls.{most_pieces};
 ghost use Rattle.ob_connection.specs.Obeying.{done_reply, removed_reply};
-ghost use Rattle.ob_shared_connection.specs.Calls.{GivingUp, IsCall, Makes, ObeyingFreely, Taking, TakingQuietly, giving_up};
+ghost use Rattle.ob_shared_connection.specs.Calls.{AlwaysCovered, GivingUp, IsCall, Makes, ObeyingFreely, Taking, TakingQuietly, giving_up};
 ghost use Rattle.ob_c.specs.Gathering.{AreAt};
 ghost use Rattle.ob_c.specs.Looks.{ShowsLeft, current_or_status};
 ghost use Rattle.ob_c.specs.Numbers.{status_in_c};
@@ -155,7 +155,7 @@ pub extern "C" fn limekeel_transport_current(transport: &mut Transport) -> Curre
 #[unsafe(no_mangle)]
 pub extern "C" fn limekeel_transport_give_up(transport: &mut Transport, cause: u32) -> Taken
     ensures { Tries transport.old.value
-        (λ answer before after. IsCall (GivingUp (record { 0 = cause })) (giving_up (record { 0 = cause })) before answer after)
+        (λ answer before after. IsCall AlwaysCovered (GivingUp (record { 0 = cause })) (giving_up (record { 0 = cause })) before answer after)
         taken_in_c result transport.new.value }
 {
     Taken::of(transport.obey(commands::GiveUp(Cause(cause))))

@@ -78,7 +78,7 @@ impl Shared {
     /// Makes the call of an act that takes no flushed message away, if there is a handle and the lock is free.
     pub(crate) fn obey<A: Act<Fault = Refusal> + Drop>(&mut self, act: A) -> Result<A::Answer, u32>
         requires { MayGive false (A.commands act) }
-        ensures { Tries self.old.value (λ answer before after. IsCall (A.does act) (A.commands act) before answer after)
+        ensures { Tries self.old.value (λ answer before after. IsCall A.uncovered (A.does act) (A.commands act) before answer after)
             (λ told. told) result self.new.value }
     {
         if !self.is_open() {
@@ -99,7 +99,7 @@ impl Shared {
         act: A,
     ) -> Result<Result<A::Answer, WriteFault>, u32>
         requires { MayGive false (A.commands act) }
-        ensures { TriesTo self.old.value (λ answer before after. IsCall (A.does act) (A.commands act) before answer after)
+        ensures { TriesTo self.old.value (λ answer before after. IsCall A.uncovered (A.does act) (A.commands act) before answer after)
             (λ told. told) result self.new.value }
     {
         if !self.is_open() {
@@ -120,7 +120,7 @@ impl Shared {
         act: A,
     ) -> Result<Told<Result<Result<A::Answer, WriteFault>, RaiseFault>>, u32>
         requires { MayGive false (A.commands act) }
-        ensures { TriesTo self.old.value (DoesWithin (A.does act) (A.commands act)) (λ told. told) result self.new.value }
+        ensures { TriesTo self.old.value (DoesWithin A.uncovered (A.does act) (A.commands act)) (λ told. told) result self.new.value }
     {
         if !self.is_open() {
             return Err(NOT_OPEN);

@@ -73,7 +73,7 @@ impl Transport {
 
     /// Makes the call of an act, if there is a handle and the lock is free.
     pub(crate) fn obey<A: Act<Fault = Refusal> + Drop>(&mut self, act: A) -> Result<A::Answer, u32>
-        ensures { Tries self.old.value (λ answer before after. IsCall (A.does act) (A.commands act) before answer after)
+        ensures { Tries self.old.value (λ answer before after. IsCall A.uncovered (A.does act) (A.commands act) before answer after)
             (λ told. told) result self.new.value }
     {
         if !self.is_open() {

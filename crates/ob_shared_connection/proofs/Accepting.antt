@@ -1,10 +1,10 @@
 -- When a connection accepts a message while there is memory.
-use Rattle.std.proofs.Common.{◌≡◌, ℕ, ◌+◌, ◌-◌, Bool, true, false, List, ◌||◌, if◌then◌else◌, nat_lt, refl, sym, ap, ◌∙◌, arith}
-use Rattle.std.proofs.Common.{Option, Some, None, Result, Ok, Err, is_ok, IsOk}
+use Rattle.std.proofs.Common.{◌≡◌, ℕ, ◌+◌, ◌-◌, Bool, true, false, List, [], ◌∷◌, subst, ◌||◌, if◌then◌else◌, nat_lt, refl, sym, ap, ◌∙◌, arith}
+use Rattle.std.proofs.Common.{Option, Some, None, Result, Ok, Err, IfErr, is_ok, IsOk}
 use Rattle.ob_types.specs.Limits.{greatest_pending_size}
 use Rattle.ob_types.specs.PendingSize.{counted_bytes, is_long_region, is_oversize, pending_size_of, readable_bytes}
 use Rattle.ob_types.specs.declared.command.Command.{Command}
-use Rattle.ob_types.specs.declared.command.Command.TheVariants.{Write}
+use Rattle.ob_types.specs.declared.command.Command.TheVariants.{Flush, Write}
 use Rattle.ob_types.specs.declared.estimate.Estimate.{Estimate}
 use Rattle.ob_types.specs.declared.message.Message.{Message}
 use Rattle.ob_types.specs.declared.promise.PromiseState.{PromiseState}
@@ -17,7 +17,8 @@ use Rattle.ob_seq.specs.State.{is_closed}
 use Rattle.ob_connection.specs.Connected.{Connected, StandsForSome, connection_limit}
 use Rattle.ob_connection.specs.Looks.{Refuses}
 use Rattle.ob_connection.specs.Obeying.{Accepts, Obeys}
-use Rattle.ob_shared_connection.specs.Covers.{CountsAs}
+use Rattle.ob_covered.specs.Cover.{CoverValue}
+use Rattle.ob_shared_connection.specs.Covers.{Adds, CountsAs, HoldsFor, Passes, PassesRoom, held_by}
 
 -- a connection that obeyed accepts
 pub accepts_obeyed : {A : Type 0} (old new : Connected) (command : Command) (tell : List PromiseState → A → Reply)
@@ -112,3 +113,45 @@ counts_as connected estimate message size same is =
           ∙ ap (λ (e : Estimate). (size - estimate.overhead) + e.overhead) same;
       short = both.1;
     }
+
+-- a write passes a room if what its message counts does
+pub passes_room : (connected : Connected) (message : Message) (bytes room : ℕ) → Accepts connected (Write message)
+    → bytes ≡ counted_bytes connected.unsent.settings.estimate message → Passes connected bytes room
+    → PassesRoom connected (Write message ∷ []) (Some room)
+passes_room connected message bytes room accepts is passes =
+    let counted : bytes ≡ counted_bytes connected.unsent.settings.estimate message + 0 = omega (arith, is) in record {
+      accepted = accepts;
+      bytes = room;
+      room_is = refl;
+      passes = subst (λ n. Passes connected n room) counted passes;
+    }
+
+-- and so does it with a flush behind it
+pub passes_flushed : (connected : Connected) (message : Message) (room : Option ℕ)
+    → PassesRoom connected (Write message ∷ []) room → PassesRoom connected (Write message ∷ Flush ∷ []) room
+passes_flushed connected message room lacks =
+    let estimate = connected.unsent.settings.estimate in
+    let same : counted_bytes estimate message + 0 ≡ counted_bytes estimate message + (0 + 0) = omega arith in record {
+      accepted = lacks.accepted;
+      bytes = lacks.bytes;
+      room_is = lacks.room_is;
+      passes = subst (λ n. Passes connected n lacks.bytes) same lacks.passes;
+    }
+
+-- a seat that holds what commands add does not lack it
+held_passes : (connected : Connected) (commands : List Command) (bytes : ℕ) (cover : Option CoverValue)
+    → Adds connected commands bytes → HoldsFor connected bytes cover → PassesRoom connected commands (held_by cover) → ⊥
+held_passes connected commands bytes None adds holds lacks = cc lacks.room_is
+held_passes connected commands bytes (Some cover) adds holds lacks =
+    let room : cover.seat.account.held ≡ lacks.bytes = cc lacks.room_is in
+    let passes = lacks.passes in
+    omega (arith, room, passes.more, adds.written lacks.accepted, holds passes.now passes.is_pending)
+
+-- so no fault of theirs says so
+pub always_covers : {A E : Type 0} (Uncovered : E → Type 0) (connected : Connected) (commands : List Command) (bytes : ℕ)
+    (cover : Option CoverValue) (result : Result A E) → Adds connected commands bytes → HoldsFor connected bytes cover
+    → IfErr result (λ fault. Uncovered fault → PassesRoom connected commands (held_by cover))
+    → IfErr result (λ fault. ¬ Uncovered fault)
+always_covers Uncovered connected commands bytes cover (Ok answer) adds holds lacks = tt
+always_covers Uncovered connected commands bytes cover (Err fault) adds holds lacks =
+    λ uncovered. held_passes connected commands bytes cover adds holds (lacks uncovered)

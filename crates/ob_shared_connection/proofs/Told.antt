@@ -222,23 +222,24 @@ module _ (me : Knows) (commands : List Command) (before after : Carried) (holds 
   }
 
   -- and the call is as contracts say it, of the connection under the cover that it has then
-  pub is_call_under : {A E : Type 0} (Does : Connected → Result A E → Connected → Type 0) (table : TableId) (answer : A)
+  pub is_call_under : {A E : Type 0} (Uncovered : E → Type 0) (Does : Connected → Result A E → Connected → Type 0) (table : TableId) (answer : A)
       → Does before.connection (Ok answer) after.connection
-      → IsCall Does commands (recovered (cover_of after) (held_of table me)) (Ok answer) (held_of table next)
-  is_call_under Does table answer does = record {
+      → IsCall Uncovered Does commands (recovered (cover_of after) (held_of table me)) (Ok answer) (held_of table next)
+  is_call_under Uncovered Does table answer does = record {
     does = subst (λ (carried : Carried). Does carried.connection (Ok answer) after.connection) (sym found) does;
     listed = refl;
     refused = tt;
     left = left_next;
     kept = refl;
     covered = covered;
+    lacks = tt;
   }
 
   -- so it is, if the cover is as it was
-  pub is_call : {A E : Type 0} (Does : Connected → Result A E → Connected → Type 0) (table : TableId) (answer : A)
+  pub is_call : {A E : Type 0} (Uncovered : E → Type 0) (Does : Connected → Result A E → Connected → Type 0) (table : TableId) (answer : A)
       → cover_of after ≡ cover_of before → Does before.connection (Ok answer) after.connection
-      → IsCall Does commands (held_of table me) (Ok answer) (held_of table next)
-  is_call Does table answer same does =
+      → IsCall Uncovered Does commands (held_of table me) (Ok answer) (held_of table next)
+  is_call Uncovered Does table answer same does =
       subst (λ (cover : Option CoverValue).
-      IsCall Does commands (recovered cover (held_of table me)) (Ok answer) (held_of table next))
-      (same ∙ ap cover_of (sym found)) (is_call_under Does table answer does)
+      IsCall Uncovered Does commands (recovered cover (held_of table me)) (Ok answer) (held_of table next))
+      (same ∙ ap cover_of (sym found)) (is_call_under Uncovered Does table answer does)

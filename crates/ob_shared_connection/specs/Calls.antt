@@ -15,7 +15,7 @@ use Rattle.ob_connection.specs.Obeying.{GivesUp, IsNext, IsQuiet, Obeys, flushed
 use Rattle.ob_connection.specs.declared.replies.Flushed.{Flushed}
 use Rattle.ob_connection.specs.declared.replies.Taken.{Taken}
 use Rattle.ob_connection.specs.declared.replies.Written.{Written}
-use Rattle.ob_shared_connection.specs.Covers.{IsCovered, Within}
+use Rattle.ob_shared_connection.specs.Covers.{IsCovered, PassesRoom, Within, held_by}
 use Rattle.ob_shared_connection.specs.Log.{commands_by}
 use Rattle.ob_shared_connection.specs.Removals.{NoneRemoves}
 use Rattle.ob_shared_connection.specs.Values.{HandleValue, Held, IsLeft, handle_with}
@@ -38,20 +38,34 @@ pub record IsLock (old : HandleValue) (new : Held) : Type 0 where
   pub covered : IsCovered new.handle.budget new.connected new.cover
 
 -- a call under the lock does this to the connection; if it is accepted, the list has its commands behind all others, and
--- else nothing changed; the cover is as it was, and covers what is pending
-pub record IsCall {A E : Type 0} (Does : Connected → Result A E → Connected → Type 0) (commands : List Command)
-    (old : Held) (result : Result A E) (new : Held) : Type 0 where
+-- else nothing changed; the cover is as it was, and covers what is pending. A fault that says that it was not covered is
+-- right: the seat lacks what it writes
+pub record IsCall {A E : Type 0} (Uncovered : E → Type 0) (Does : Connected → Result A E → Connected → Type 0)
+    (commands : List Command) (old : Held) (result : Result A E) (new : Held) : Type 0 where
   pub does : Does old.connected result new.connected
   pub listed : OnOk result (new.handle ≡ handle_with commands old.handle)
   pub refused : OnErr result (new ≡ old)
   pub left : IsLeft new
   pub kept : new.cover ≡ old.cover
   pub covered : IsCovered new.handle.budget new.connected new.cover
+  pub lacks : IfErr result (λ fault. Uncovered fault → PassesRoom old.connected commands (held_by old.cover))
+
+-- a call that writes nothing is never refused since its seat does not cover it
+abbrev pub AlwaysCovered : {E : Type 0} → E → Type 0
+AlwaysCovered fault = ⊥
+
+-- a write was refused since its seat does not cover it
+abbrev pub IsUncovered : WriteFault → Type 0
+IsUncovered why = why ≡ Uncovered
+
+-- and its message came back
+abbrev pub ComesBackUncovered : NotWritten → Type 0
+ComesBackUncovered refused = refused.why ≡ Uncovered
 
 -- a call of one command
 abbrev pub Makes : {A : Type 0} → (Command → Connected → Result A Refusal → Connected → Type 0) → Command
     → Result A Refusal → Held → Held → Type 0
-Makes Does command result old new = IsCall (Does command) (command ∷ []) old result new
+Makes Does command result old new = IsCall AlwaysCovered (Does command) (command ∷ []) old result new
 
 -- between an old handle and a new one it took the lock once, this was done under it, and it let the lock go
 pub record UnderLock (old : HandleValue) (Does : Held → Held → Type 0) (new : HandleValue) : Type 0 where
@@ -85,7 +99,7 @@ pub record Writing (message : Message) (old : Connected) (result : Result Writte
 
 -- a call that writes a message
 abbrev pub Writes : Message → Result Written NotWritten → Held → Held → Type 0
-Writes message result old new = IsCall (Writing message) (Write message ∷ []) old result new
+Writes message result old new = IsCall ComesBackUncovered (Writing message) (Write message ∷ []) old result new
 
 -- it writes a message, as the sequential connection does, may run out of memory, or of what its seat holds, and lets a
 -- message go that it refuses
@@ -94,7 +108,7 @@ Putting message old result new = Obeys old (Write message) written_reply (answer
 
 -- a call that writes a message, which is gone if it is refused
 abbrev pub Puts : Message → Result Written WriteFault → Held → Held → Type 0
-Puts message result old new = IsCall (Putting message) (Write message ∷ []) old result new
+Puts message result old new = IsCall IsUncovered (Putting message) (Write message ∷ []) old result new
 
 -- it obeys the command, and never runs out of memory
 pub record ObeyingFreely {A : Type 0} (tell : List PromiseState → A → Reply) (command : Command) (old : Connected)
@@ -121,11 +135,12 @@ ThenFlushes Writes old (Err refused) new = Writes old (Err refused) new
 
 -- a call that writes a message and flushes
 abbrev pub WritesAndFlushes : Message → Result WrittenAndFlushed NotWritten → Held → Held → Type 0
-WritesAndFlushes message result old new = IsCall (ThenFlushes (Writing message)) (Write message ∷ Flush ∷ []) old result new
+WritesAndFlushes message result old new =
+    IsCall ComesBackUncovered (ThenFlushes (Writing message)) (Write message ∷ Flush ∷ []) old result new
 
 -- the same, if the message is gone when it is refused
 abbrev pub PutsAndFlushes : Message → Result WrittenAndFlushed WriteFault → Held → Held → Type 0
-PutsAndFlushes message result old new = IsCall (ThenFlushes (Putting message)) (Write message ∷ Flush ∷ []) old result new
+PutsAndFlushes message result old new = IsCall IsUncovered (ThenFlushes (Putting message)) (Write message ∷ Flush ∷ []) old result new
 
 -- it obeys the command, never runs out of memory, and what it took away goes on where those end that were gone before,
 -- with this outcome

@@ -1,5 +1,5 @@
 -- What a call promises of a connection within a budget.
-use Rattle.std.specs.Prelude.{◌≡◌, ◌<◌, ◌⊎◌, ℕ, List, Option, None, Result, Ok, Err}
+use Rattle.std.specs.Prelude.{◌≡◌, ◌<◌, ◌⊎◌, ℕ, List, Option, None, Result, Ok, Err, IfErr}
 use Rattle.ob_types.specs.declared.command.Command.{Command}
 use Rattle.ob_connection.specs.Connected.{Connected}
 use Rattle.ob_budget.specs.declared.pressure.Pressure.{Pressure}
@@ -16,9 +16,10 @@ IsRecovered old new = new ≡ recovered new.cover old
 -- a call of the connection under the cover that it has then, of whose seat this turn of pressure is told. The seat held
 -- what the call writes beside what was pending, if the connection accepts that; it took no more than it lacked for that
 -- and a quantum, or gave back what was spare, as it does if the call writes nothing
-pub record CallsUnder {A E : Type 0} (Does : Connected → Result A E → Connected → Type 0) (commands : List Command)
+pub record CallsUnder {A E : Type 0} (Uncovered : E → Type 0) (Does : Connected → Result A E → Connected → Type 0) (commands : List Command)
     (old : Held) (result : Result A E) (pressure : Option Pressure) (new : Held) : Type 0 where
-  pub calls : IsCall Does commands (recovered new.cover old) result new
+  pub calls : IsCall Uncovered Does commands (recovered new.cover old) result new
+  pub covers : IfErr result (λ fault. ¬ Uncovered fault)
   pub tells : TellsIf old.cover pressure new.cover
   pub enough : 0 < bytes_written old.connected.unsent.settings.estimate commands → AcceptsFirst old.connected commands
       → HoldsFor old.connected (bytes_written old.connected.unsent.settings.estimate commands) new.cover
@@ -40,15 +41,15 @@ pub record PassesBudget {A : Type 0} (commands : List Command) (act : A) (old : 
       new.cover
 
 -- a call that the budget covers, or one that it does not
-abbrev pub ActsBy : {A E B : Type 0} → (Connected → Result A E → Connected → Type 0) → List Command → B → Held
+abbrev pub ActsBy : {A E B : Type 0} → (E → Type 0) → (Connected → Result A E → Connected → Type 0) → List Command → B → Held
     → Result (Result A E) (OverBudget B) → Option Pressure → Held → Type 0
-ActsBy Does commands act old (Ok result) pressure new = CallsUnder Does commands old result pressure new
-ActsBy Does commands act old (Err over) pressure new = PassesBudget commands act old over pressure new
+ActsBy Uncovered Does commands act old (Ok result) pressure new = CallsUnder Uncovered Does commands old result pressure new
+ActsBy Uncovered Does commands act old (Err over) pressure new = PassesBudget commands act old over pressure new
 
 -- as the call tells it
-abbrev pub ActsWithin : {A E B : Type 0} → (Connected → Result A E → Connected → Type 0) → List Command → B → Held
+abbrev pub ActsWithin : {A E B : Type 0} → (E → Type 0) → (Connected → Result A E → Connected → Type 0) → List Command → B → Held
     → Told (Result (Result A E) (OverBudget B)) → Held → Type 0
-ActsWithin Does commands act old told new = ActsBy Does commands act old told.answer told.pressure new
+ActsWithin Uncovered Does commands act old told new = ActsBy Uncovered Does commands act old told.answer told.pressure new
 
 -- the seat of the cover gave back what was spare, down to so many quanta at most, and told of this turn
 pub record Settles (quanta : ℕ) (pressure : Option Pressure) (old new : Held) : Type 0 where

@@ -69,6 +69,19 @@ abbrev pub AcceptsFirst : Connected → List Command → Type 0
 AcceptsFirst connected [] = ⊤
 AcceptsFirst connected (command ∷ commands) = Accepts connected command
 
+-- these bytes and those that are pending of the connection are more than the room
+pub record Passes (connected : Connected) (bytes room : ℕ) : Type 0 where
+  pub now : ℕ
+  pub is_pending : IsPending connected now
+  pub more : room < now + bytes
+
+-- the connection has this room, and would accept these commands, but what they write passes it
+pub record PassesRoom (connected : Connected) (commands : List Command) (room : Option ℕ) : Type 0 where
+  pub accepted : AcceptsFirst connected commands
+  pub bytes : ℕ
+  pub room_is : room ≡ Some bytes
+  pub passes : Passes connected (bytes_written connected.unsent.settings.estimate commands) bytes
+
 -- bytes that are to be covered before commands are made: what they write, if the first of them is accepted, and else
 -- none
 pub record Adds (connected : Connected) (commands : List Command) (bytes : ℕ) : Type 0 where

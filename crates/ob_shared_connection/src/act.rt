@@ -1,8 +1,8 @@
-ghost use Rattle.std.specs.Prelude.{◌≡◌, List, IfErr, IsOk, IsSome, OnErr, OnOk, Result, Some, ℕ};
+ghost use Rattle.std.specs.Prelude.{◌≡◌, List, IfErr, IsOk, OnErr, OnOk, Result, Some, ℕ};
 ghost use Rattle.ob_types.specs.declared.command.Command.{Command};
 ghost use Rattle.ob_connection.specs.Connected.{Connected};
 ghost use Rattle.ob_shared_connection.specs.Acts.{Continues};
-ghost use Rattle.ob_shared_connection.specs.Covers.{Adds, FitsIn};
+ghost use Rattle.ob_shared_connection.specs.Covers.{Adds, FitsIn, PassesRoom};
 
 use ob_connection::Connection;
 
@@ -38,6 +38,6 @@ pub trait Act {
         ensures does { does self connection.old result connection.new }
         ensures goes_on { OnOk result (Continues connection.old (commands self) connection.new) }
         ensures refused { OnErr result (connection.new ≡ connection.old) }
-        ensures within { IfErr result (λ fault. uncovered fault → IsSome room) }
+        ensures lacks { IfErr result (λ fault. uncovered fault → PassesRoom connection.old (commands self) room) }
         ensures fits { (bytes : ℕ) → room ≡ Some bytes → IsOk result → FitsIn connection.old (commands self) bytes };
 }

@@ -276,7 +276,7 @@ impl Caller {
         requires holds { IsHolder self.old }
         requires may { MayGive (caller_handle self.old).sends (A.commands act) }
         ensures holds { IsHolder self.new }
-        ensures call { IsCall (A.does act) (A.commands act) (caller_held self.old) result (caller_held self.new) }
+        ensures call { IsCall A.uncovered (A.does act) (A.commands act) (caller_held self.old) result (caller_held self.new) }
         ensures covered { IfErr result (λ fault. A.uncovered fault → (caller_handle self.old).budget ≢ None) }
     {
         self.act_for::<A, Brand>(act)
@@ -288,7 +288,7 @@ impl Caller {
         requires may { MayGive (caller_handle self.old).sends (A.commands act) }
         requires commands { C.commands ≡ A.commands act }
         ensures holds { IsHolder self.new }
-        ensures call { IsCall (A.does act) (A.commands act) (caller_held self.old) result (caller_held self.new) }
+        ensures call { IsCall A.uncovered (A.does act) (A.commands act) (caller_held self.old) result (caller_held self.new) }
         ensures covered { IfErr result (λ fault. A.uncovered fault → (caller_handle self.old).budget ≢ None) }
     {
         let Caller { shared, seat } = self;
@@ -318,7 +318,7 @@ impl Caller {
         ensures free { IsFree self.new }
         ensures sends { (caller_handle self.new).sends ≡ (caller_handle self.old).sends }
         ensures under { UnderLock (caller_handle self.old)
-            (λ before after. IsCall (A.does act) (A.commands act) before result after) (caller_handle self.new) }
+            (λ before after. IsCall A.uncovered (A.does act) (A.commands act) before result after) (caller_handle self.new) }
         ensures covered { IfErr result (λ fault. A.uncovered fault → (caller_handle self.old).budget ≢ None) }
     {
         self.lock(rt, Patience::Short);
@@ -334,7 +334,7 @@ impl Caller {
         ensures free { IsFree self.new }
         ensures sends { (caller_handle self.new).sends ≡ (caller_handle self.old).sends }
         ensures under { IfOk result (λ told. UnderLock (caller_handle self.old)
-            (λ before after. IsCall (A.does act) (A.commands act) before told.0 after) (caller_handle self.new)) }
+            (λ before after. IsCall A.uncovered (A.does act) (A.commands act) before told.0 after) (caller_handle self.new)) }
         ensures covered { IfOk result (λ told. IfErr told.0 (λ fault.
             A.uncovered fault → (caller_handle self.old).budget ≢ None)) }
         ensures busy { OnErr result (caller_handle self.new ≡ caller_handle self.old) }

@@ -1,7 +1,7 @@
 //! What lies under the lock.
-ghost use Rattle.std.specs.Prelude.{◌≡◌, ◌<◌, IfErr, IfOk, IsSome, None, OnErr, OnOk};
+ghost use Rattle.std.specs.Prelude.{◌≡◌, ◌<◌, IfErr, IfOk, None, OnErr, OnOk};
 ghost use Rattle.ob_shared_connection.specs.Acts.{Continues};
-ghost use Rattle.ob_shared_connection.specs.Covers.{HoldsFor, IsUnder, LacksRoom, SparesAtMost, TakesFor, TellsIf, cover_of, held_by};
+ghost use Rattle.ob_shared_connection.specs.Covers.{HoldsFor, IsUnder, LacksRoom, PassesRoom, SparesAtMost, TakesFor, TellsIf, cover_of, held_by};
 
 use crate::act::Act;
 use ob_budget::{Pressure, RaiseFault};
@@ -36,7 +36,8 @@ impl Carried {
         ensures refused { OnErr result (self.new ≡ self.old) }
         ensures cover { cover_of self.new ≡ cover_of self.old }
         ensures under { IsUnder self.new.connection (cover_of self.new) }
-        ensures within { IfErr result (λ fault. A.uncovered fault → IsSome (cover_of self.old)) }
+        ensures lacks { IfErr result (λ fault. A.uncovered fault →
+            PassesRoom self.old.connection (A.commands act) (held_by (cover_of self.old))) }
     {
         let room = self.room();
         self.connection.stands_for_some_commands();

@@ -4,8 +4,8 @@ ghost use Rattle.ob_types.specs.declared.command.Command.TheVariants as command;
 ghost use Rattle.ob_types.specs.declared.promise.Outcome.TheVariants.{Success, Failed};
 ghost use Rattle.ob_connection.specs.Obeying.{flushed_reply, removed_reply, taken_reply, cancelled_reply, bit_reply};
 ghost use Rattle.ob_connection.specs.Obeying.{done_reply};
-ghost use Rattle.ob_shared_connection.specs.declared.not_written.WriteFault.TheVariants.{Uncovered};
-ghost use Rattle.ob_shared_connection.specs.Calls.{GivingUp, ObeyingFreely, Taking, TakingQuietly, Writing, giving_up};
+ghost use Rattle.ob_shared_connection.specs.Calls.{AlwaysCovered, ComesBackUncovered, GivingUp, ObeyingFreely, Taking, TakingQuietly};
+ghost use Rattle.ob_shared_connection.specs.Calls.{Writing, giving_up};
 
 use crate::act::Act;
 use crate::lacking::{bytes_added, room_lacks};
@@ -25,7 +25,7 @@ impl Act for Write {
 
     ghost does = { λ act. Writing act.0 };
 
-    ghost uncovered = { λ fault. fault.why ≡ Uncovered };
+    ghost uncovered = { ComesBackUncovered };
 
     fn adds(&self, connection: &Connection) -> u64 {
         bytes_added(connection, &self.0)
@@ -60,7 +60,7 @@ impl Act for Flush {
 
     ghost does = { λ _. ObeyingFreely flushed_reply command.Flush };
 
-    ghost uncovered = { λ _. ⊥ };
+    ghost uncovered = { AlwaysCovered };
 
     fn adds(&self, _connection: &Connection) -> u64 {
         0
@@ -83,7 +83,7 @@ impl Act for Remove {
 
     ghost does = { λ _. ObeyingFreely removed_reply command.Remove };
 
-    ghost uncovered = { λ _. ⊥ };
+    ghost uncovered = { AlwaysCovered };
 
     fn adds(&self, _connection: &Connection) -> u64 {
         0
@@ -106,7 +106,7 @@ impl Act for RemoveWith {
 
     ghost does = { λ act. ObeyingFreely removed_reply (command.RemoveWith act.0) };
 
-    ghost uncovered = { λ _. ⊥ };
+    ghost uncovered = { AlwaysCovered };
 
     fn adds(&self, _connection: &Connection) -> u64 {
         0
@@ -129,7 +129,7 @@ impl Act for TakeSent {
 
     ghost does = { λ act. Taking Success (command.RemoveBytes act.0) };
 
-    ghost uncovered = { λ _. ⊥ };
+    ghost uncovered = { AlwaysCovered };
 
     fn adds(&self, _connection: &Connection) -> u64 {
         0
@@ -152,7 +152,7 @@ impl Act for Progress {
 
     ghost does = { λ act. ObeyingFreely done_reply (command.Progress act.0) };
 
-    ghost uncovered = { λ _. ⊥ };
+    ghost uncovered = { AlwaysCovered };
 
     fn adds(&self, _connection: &Connection) -> u64 {
         0
@@ -175,7 +175,7 @@ impl Act for Cancel {
 
     ghost does = { λ act. ObeyingFreely (cancelled_reply act.0) (command.Cancel (record { 0 = act.0 })) };
 
-    ghost uncovered = { λ _. ⊥ };
+    ghost uncovered = { AlwaysCovered };
 
     fn adds(&self, _connection: &Connection) -> u64 {
         0
@@ -198,7 +198,7 @@ impl Act for FailFlushed {
 
     ghost does = { λ act. TakingQuietly (Failed act.0) (act.1 ≡ false) (command.FailFlushed act.0 act.1) };
 
-    ghost uncovered = { λ _. ⊥ };
+    ghost uncovered = { AlwaysCovered };
 
     fn adds(&self, _connection: &Connection) -> u64 {
         0
@@ -221,7 +221,7 @@ impl Act for Close {
 
     ghost does = { λ act. TakingQuietly (Failed act.0) ⊤ (command.Close act.0) };
 
-    ghost uncovered = { λ _. ⊥ };
+    ghost uncovered = { AlwaysCovered };
 
     fn adds(&self, _connection: &Connection) -> u64 {
         0
@@ -244,7 +244,7 @@ impl Act for GiveUp {
 
     ghost does = { λ act. GivingUp act.0 };
 
-    ghost uncovered = { λ _. ⊥ };
+    ghost uncovered = { AlwaysCovered };
 
     fn adds(&self, _connection: &Connection) -> u64 {
         0
@@ -267,7 +267,7 @@ impl Act for UserBit {
 
     ghost does = { λ act. ObeyingFreely bit_reply (command.UserBit act.0 act.1) };
 
-    ghost uncovered = { λ _. ⊥ };
+    ghost uncovered = { AlwaysCovered };
 
     fn adds(&self, _connection: &Connection) -> u64 {
         0
@@ -294,7 +294,7 @@ impl Act for SetMarks {
 
     ghost does = { λ act. ObeyingFreely done_reply (command.SetMarks act.0) };
 
-    ghost uncovered = { λ _. ⊥ };
+    ghost uncovered = { AlwaysCovered };
 
     fn adds(&self, _connection: &Connection) -> u64 {
         0

@@ -1,12 +1,12 @@
 //! What a write adds to what is pending, and whether a seat holds that beside it.
-ghost use Rattle.std.specs.Prelude.{◌≡◌, ◌≤◌, ◌<◌, ◌+◌, ℕ, true, false, List, [], ◌∷◌, Some, IsSome};
+ghost use Rattle.std.specs.Prelude.{◌≡◌, ◌≤◌, ◌<◌, ◌+◌, ℕ, true, false, List, [], ◌∷◌, Some};
 ghost use Rattle.ob_types.specs.PendingSize.{counted_bytes};
 ghost use Rattle.ob_types.specs.declared.command.Command.TheVariants.{Write};
 ghost use Rattle.ob_types.specs.declared.message.Message.{Message};
 ghost use Rattle.ob_types.specs.declared.message.Message.TheVariants.{Block};
 ghost use Rattle.ob_connection.specs.Obeying.{Accepts, joined};
 ghost use Rattle.ob_covered.specs.Budgeted.{IsPending};
-ghost use Rattle.ob_shared_connection.specs.Covers.{CountsAs, FitsIn};
+ghost use Rattle.ob_shared_connection.specs.Covers.{CountsAs, FitsIn, Passes, PassesRoom};
 
 use ob_connection::{Connection, length_of_parts};
 use ob_types::{Message, pending_size, pending_size_of_length};
@@ -61,6 +61,7 @@ pub fn bytes_added_by_parts(connection: &Connection, parts: &[&[u8]]) -> u64
 /// Whether these bytes and those that are pending are more than the seat holds.
 fn passes(connection: &Connection, bytes: u64, room: u64) -> bool
     ensures some { result ≡ true → 0 < bytes }
+    ensures more { result ≡ true → Passes connection.now bytes room }
     ensures fits { result ≡ false → (before : ℕ) → IsPending connection.now before → before ≤ room → before + bytes ≤ room }
 {
     connection.stands_for_some_commands();
@@ -70,8 +71,7 @@ fn passes(connection: &Connection, bytes: u64, room: u64) -> bool
 
 /// Whether a connection accepts a message, and its seat does not hold it beside what is pending.
 pub fn room_lacks(connection: &Connection, message: &Message, room: Option<u64>) -> bool
-    ensures within { result ≡ true → IsSome room }
-    ensures accepted { result ≡ true → Accepts connection.now (Write message.now) }
+    ensures lacks { result ≡ true → PassesRoom connection.now (Write message.now ∷ []) room }
     ensures fits { result ≡ false → (bytes : ℕ) → room ≡ Some bytes → Accepts connection.now (Write message.now)
         → FitsIn connection.now (Write message.now ∷ []) bytes }
 {
@@ -83,9 +83,8 @@ pub fn room_lacks(connection: &Connection, message: &Message, room: Option<u64>)
 
 /// The same of a message that counts as many as a block of *n* bytes.
 pub fn room_lacks_block(connection: &Connection, n: usize, room: Option<u64>) -> bool
-    ensures within { result ≡ true → IsSome room }
-    ensures accepted { result ≡ true → (message : Message) → CountsAs connection.now n message
-        → Accepts connection.now (Write message) }
+    ensures lacks { result ≡ true → (message : Message) → CountsAs connection.now n message
+        → PassesRoom connection.now (Write message ∷ []) room }
     ensures fits { result ≡ false → (bytes : ℕ) → room ≡ Some bytes → (message : Message) → CountsAs connection.now n message
         → Accepts connection.now (Write message) → FitsIn connection.now (Write message ∷ []) bytes }
 {
@@ -97,8 +96,7 @@ pub fn room_lacks_block(connection: &Connection, n: usize, room: Option<u64>) ->
 
 /// The same of a block of these parts.
 pub fn room_lacks_parts(connection: &Connection, parts: &[&[u8]], room: Option<u64>) -> bool
-    ensures within { result ≡ true → IsSome room }
-    ensures accepted { result ≡ true → Accepts connection.now (Write (Block (joined parts.now))) }
+    ensures lacks { result ≡ true → PassesRoom connection.now (Write (Block (joined parts.now)) ∷ []) room }
     ensures fits { result ≡ false → (bytes : ℕ) → room ≡ Some bytes → Accepts connection.now (Write (Block (joined parts.now)))
         → FitsIn connection.now (Write (Block (joined parts.now)) ∷ []) bytes }
 {

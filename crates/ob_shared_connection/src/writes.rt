@@ -1,11 +1,10 @@
 //! Writes of messages that are made for them, and writes with the flush behind them, as acts.
-ghost use Rattle.std.specs.Prelude.{◌≡◌, [], ◌∷◌};
+ghost use Rattle.std.specs.Prelude.{[], ◌∷◌};
 ghost use Rattle.ob_types.specs.declared.command.Command.TheVariants as command;
 ghost use Rattle.ob_types.specs.declared.message.Message.TheVariants.{Block};
 ghost use Rattle.ob_connection.specs.Obeying.{joined};
 ghost use Rattle.ob_shared_connection.specs.Acts.{IsOpen};
-ghost use Rattle.ob_shared_connection.specs.Calls.{Flushing, Putting, ThenFlushes, Writing};
-ghost use Rattle.ob_shared_connection.specs.declared.not_written.WriteFault.TheVariants.{Uncovered};
+ghost use Rattle.ob_shared_connection.specs.Calls.{ComesBackUncovered, Flushing, IsUncovered, Putting, ThenFlushes, Writing};
 
 use crate::act::Act;
 use crate::commands::Write;
@@ -31,7 +30,7 @@ impl Act for Put {
 
     ghost does = { λ act. Putting act.0 };
 
-    ghost uncovered = { λ fault. fault ≡ Uncovered };
+    ghost uncovered = { IsUncovered };
 
     fn adds(&self, connection: &Connection) -> u64 {
         bytes_added(connection, &self.0)
@@ -61,7 +60,7 @@ impl<'b> Act for WriteCopy<'b> {
 
     ghost does = { λ act. Putting (Block act.0.now) };
 
-    ghost uncovered = { λ fault. fault ≡ Uncovered };
+    ghost uncovered = { IsUncovered };
 
     fn adds(&self, connection: &Connection) -> u64 {
         bytes_added_by(connection, self.0.len())
@@ -91,7 +90,7 @@ impl<'p, 'b> Act for WriteParts<'p, 'b> {
 
     ghost does = { λ act. Putting (Block (joined act.0.now)) };
 
-    ghost uncovered = { λ fault. fault ≡ Uncovered };
+    ghost uncovered = { IsUncovered };
 
     fn adds(&self, connection: &Connection) -> u64 {
         bytes_added_by_parts(connection, self.0)
@@ -121,7 +120,7 @@ impl Act for WriteAndFlush {
 
     ghost does = { λ act. ThenFlushes (Writing act.0) };
 
-    ghost uncovered = { λ fault. fault.why ≡ Uncovered };
+    ghost uncovered = { ComesBackUncovered };
 
     fn adds(&self, connection: &Connection) -> u64 {
         bytes_added(connection, &self.0)
@@ -158,7 +157,7 @@ impl Act for PutAndFlush {
 
     ghost does = { λ act. ThenFlushes (Putting act.0) };
 
-    ghost uncovered = { λ fault. fault ≡ Uncovered };
+    ghost uncovered = { IsUncovered };
 
     fn adds(&self, connection: &Connection) -> u64 {
         bytes_added(connection, &self.0)
@@ -192,7 +191,7 @@ impl<'b> Act for WriteCopyAndFlush<'b> {
 
     ghost does = { λ act. ThenFlushes (Putting (Block act.0.now)) };
 
-    ghost uncovered = { λ fault. fault ≡ Uncovered };
+    ghost uncovered = { IsUncovered };
 
     fn adds(&self, connection: &Connection) -> u64 {
         bytes_added_by(connection, self.0.len())

@@ -77,7 +77,7 @@ impl Caller {
         requires holds { IsHolder self.old }
         requires may { MayGive (caller_handle self.old).sends (A.commands act) }
         ensures holds { IsHolder self.new }
-        ensures acts { ActsWithin (A.does act) (A.commands act) act (caller_held self.old) result (caller_held self.new) }
+        ensures acts { ActsWithin A.uncovered (A.does act) (A.commands act) act (caller_held self.old) result (caller_held self.new) }
     {
         let adds = self.adds(&act);
         if adds == 0 {
@@ -114,7 +114,7 @@ impl Caller {
         ensures free { IsFree self.new }
         ensures sends { (caller_handle self.new).sends ≡ (caller_handle self.old).sends }
         ensures under { UnderLock (caller_handle self.old)
-            (λ before after. ActsWithin (A.does act) (A.commands act) act before result after) (caller_handle self.new) }
+            (λ before after. ActsWithin A.uncovered (A.does act) (A.commands act) act before result after) (caller_handle self.new) }
     {
         self.lock(rt, Patience::Short);
         let told = self.act_within(act);
@@ -138,7 +138,7 @@ impl Caller {
         ensures free { IsFree self.new }
         ensures sends { (caller_handle self.new).sends ≡ (caller_handle self.old).sends }
         ensures under { IfOk result (λ told. UnderLock (caller_handle self.old)
-            (λ before after. ActsWithin (A.does act) (A.commands act) act before told.0 after) (caller_handle self.new)) }
+            (λ before after. ActsWithin A.uncovered (A.does act) (A.commands act) act before told.0 after) (caller_handle self.new)) }
         ensures busy { OnErr result (caller_handle self.new ≡ caller_handle self.old) }
         ensures back { IfErr result (λ again. again ≡ act) }
     {

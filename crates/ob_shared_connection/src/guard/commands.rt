@@ -5,7 +5,7 @@ ghost use Rattle.ob_types.specs.declared.message.Message.TheVariants.{Block};
 ghost use Rattle.ob_types.specs.declared.promise.Outcome.TheVariants.{Success, Failed};
 ghost use Rattle.ob_connection.specs.Obeying.{flushed_reply, removed_reply, taken_reply, cancelled_reply, bit_reply};
 ghost use Rattle.ob_connection.specs.Obeying.{done_reply};
-ghost use Rattle.ob_shared_connection.specs.Calls.{GivingUp, IsCall, Makes, ObeyingFreely, Taking};
+ghost use Rattle.ob_shared_connection.specs.Calls.{AlwaysCovered, GivingUp, IsCall, Makes, ObeyingFreely, Taking};
 ghost use Rattle.ob_shared_connection.specs.Calls.{IsUncoveredOnlyWithin, Puts, TakingQuietly, Writes, giving_up};
 
 use crate::commands;
@@ -97,7 +97,7 @@ impl Guard {
     /// that sends.
     pub fn give_up(&mut self, cause: Cause) -> Result<Taken, Refusal>
         requires { self.old.handle.sends ≡ true }
-        ensures { IsCall (GivingUp cause) (giving_up cause) self.old result self.new }
+        ensures { IsCall AlwaysCovered (GivingUp cause) (giving_up cause) self.old result self.new }
     {
         self.caller.act(commands::GiveUp(cause))
     }

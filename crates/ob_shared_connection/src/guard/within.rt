@@ -15,7 +15,7 @@ impl Guard {
         act: A,
     ) -> Told<Result<Result<A::Answer, A::Fault>, OverBudget<A>>>
         requires { MayGive self.old.handle.sends (A.commands act) }
-        ensures { ActsWithin (A.does act) (A.commands act) act self.old result self.new }
+        ensures { ActsWithin A.uncovered (A.does act) (A.commands act) act self.old result self.new }
     {
         self.caller.act_within(act)
     }

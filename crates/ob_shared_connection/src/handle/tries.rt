@@ -21,7 +21,7 @@ impl Handle {
     pub fn try_act<A: Act>(&mut self, act: A) -> Result<(Result<A::Answer, A::Fault>, Wakes), A>
         requires { MayGive self.old.sends (A.commands act) }
         ensures under { IfOk result (λ told. UnderLock self.old
-            (λ before after. IsCall (A.does act) (A.commands act) before told.0 after) self.new) }
+            (λ before after. IsCall A.uncovered (A.does act) (A.commands act) before told.0 after) self.new) }
         ensures covered { IfOk result (λ told. IfErr told.0 (λ fault. A.uncovered fault → self.old.budget ≢ None)) }
         ensures busy { OnErr result (self.new ≡ self.old) }
         ensures back { IfErr result (λ again. again ≡ act) }

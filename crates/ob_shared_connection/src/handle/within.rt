@@ -26,7 +26,7 @@ impl Handle {
     ) -> Told<Result<Result<A::Answer, A::Fault>, OverBudget<A>>>
         requires { MayGive self.old.sends (A.commands act) }
         ensures under { UnderLock self.old
-            (λ before after. ActsWithin (A.does act) (A.commands act) act before result after) self.new }
+            (λ before after. ActsWithin A.uncovered (A.does act) (A.commands act) act before result after) self.new }
         ensures without { self.old.budget ≡ None → IsOk result.answer }
     {
         self.caller.call_within(rt, act)
@@ -46,7 +46,7 @@ impl Handle {
     >
         requires { MayGive self.old.sends (A.commands act) }
         ensures under { IfOk result (λ told. UnderLock self.old
-            (λ before after. ActsWithin (A.does act) (A.commands act) act before told.0 after) self.new) }
+            (λ before after. ActsWithin A.uncovered (A.does act) (A.commands act) act before told.0 after) self.new) }
         ensures busy { OnErr result (self.new ≡ self.old) }
         ensures back { IfErr result (λ again. again ≡ act) }
     {

@@ -3,7 +3,7 @@ ghost use Rattle.std.specs.Prelude.{◌≡◌, false, IsOk};
 ghost use Rattle.ob_types.specs.declared.command.Command.TheVariants as command;
 ghost use Rattle.ob_types.specs.declared.promise.Outcome.TheVariants.{Success, Failed};
 ghost use Rattle.ob_connection.specs.Obeying.{removed_reply};
-ghost use Rattle.ob_shared_connection.specs.Calls.{GivingUp, IsCall, Makes, ObeyingFreely, Taking, TakingQuietly};
+ghost use Rattle.ob_shared_connection.specs.Calls.{AlwaysCovered, GivingUp, IsCall, Makes, ObeyingFreely, Taking, TakingQuietly};
 ghost use Rattle.ob_shared_connection.specs.Calls.{UnderLock, giving_up};
 ghost use Rattle.ob_shared_connection.specs.Staying.{AreInFront};
 
@@ -55,7 +55,7 @@ impl Transport {
     /// Fails what is flushed and closes the connection, as `Connection::give_up`: two calls of the list.
     pub fn give_up<R: Wait>(&mut self, rt: &R, cause: Cause) -> Result<Taken, Refusal>
         ensures { UnderLock self.old
-            (λ before after. IsCall (GivingUp cause) (giving_up cause) before result after) self.new }
+            (λ before after. IsCall AlwaysCovered (GivingUp cause) (giving_up cause) before result after) self.new }
     {
         self.caller.call(rt, commands::GiveUp(cause))
     }

@@ -19,7 +19,7 @@ impl Transport {
         act: A,
     ) -> Told<Result<Result<A::Answer, A::Fault>, OverBudget<A>>>
         ensures { UnderLock self.old
-            (λ before after. ActsWithin (A.does act) (A.commands act) act before result after) self.new }
+            (λ before after. ActsWithin A.uncovered (A.does act) (A.commands act) act before result after) self.new }
     {
         self.caller.call_within(rt, act)
     }
@@ -37,7 +37,7 @@ impl Transport {
         A,
     >
         ensures under { IfOk result (λ told. UnderLock self.old
-            (λ before after. ActsWithin (A.does act) (A.commands act) act before told.0 after) self.new) }
+            (λ before after. ActsWithin A.uncovered (A.does act) (A.commands act) act before told.0 after) self.new) }
         ensures busy { OnErr result (self.new ≡ self.old) }
         ensures back { IfErr result (λ again. again ≡ act) }
     {

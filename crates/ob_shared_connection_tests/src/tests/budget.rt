@@ -104,6 +104,18 @@ fn a_write_that_is_not_told_takes_no_more_than_the_seat_holds(rt: HostRuntime) -
 }
 
 #[test]
+fn a_write_that_is_not_told_may_use_all_that_the_seat_holds(rt: HostRuntime) -> Result<(), Fail> {
+    let mut cover = budget(rt.alloc(), 300)?;
+    let mut handle = within(rt.alloc(), &mut cover)?;
+    assert!(rt; write(&rt, &mut handle) == Ok(None) && cover.look().total == 300);
+    for _ in 0..2u32 {
+        assert!(rt; handle.write_copy(&rt, b"four").is_ok());
+    }
+    assert!(rt; handle.write_copy(&rt, b"") == Err(WriteFault::Uncovered));
+    Ok(())
+}
+
+#[test]
 fn an_idle_connection_gives_back_its_quantum(rt: HostRuntime) -> Result<(), Fail> {
     let mut cover = budget(rt.alloc(), 300)?;
     let mut transport = within(rt.alloc(), &mut cover)?.into_transport();

@@ -13,7 +13,7 @@ returns-in-Ok g c =
     made c.args.self.now.value _ c.let_go.result c.reach.result.now c.try_act_within.new.self
     (ap (λ (shared : Shared). shared.value) (sym c.is_open.ensures.1) ∙ c.reach.ensures.value)
     (subst (λ (told : Told (Result (Result _ _) RaiseFault)). UnderLock c.reach.result.now
-    (DoesWithin (g.A.Act.does c.args.act) (g.A.Act.commands c.args.act) told) c.try_act_within.new.self)
+    (DoesWithin g.A.Act.uncovered (g.A.Act.does c.args.act) (g.A.Act.commands c.args.act) told) c.try_act_within.new.self)
     (sym c.let_go.ensures)
-    (acts_let_go (g.A.Act.does c.args.act) (g.A.Act.commands c.args.act) c.args.act _ c.reach.result.now
+    (acts_let_go g.A.Act.uncovered (g.A.Act.does c.args.act) (g.A.Act.commands c.args.act) c.args.act _ c.reach.result.now
     c.try_act_within.new.self c.in-Ok.ensures.under))

@@ -35,6 +35,7 @@ returns-clause-call g c =
     let me = c.args.self.now.seat.me in
     let table = c.args.self.now.seat.table_id in
     let commands = g.A.Act.commands c.args.act in
+    let Uncovered = g.A.Act.uncovered in
     let Does = g.A.Act.does c.args.act in
     let before = c.slot_mut-carried.result.now in
     let after = c.act.new.self in
@@ -44,12 +45,12 @@ returns-clause-call g c =
     ≡ c.list.new.seat.me = sym (c.list.ensures.me
     ∙ ap (λ (more : List Command). (view_with more me.0, (0, after) ∷ rest me.1)) c.requires.commands) in
     subst (λ (knows : Knows).
-    IsCall Does commands (held_of table me) (Ok c.in_ok-answer.answer) (held_of c.list.new.seat.table_id knows)) same
+    IsCall Uncovered Does commands (held_of table me) (Ok c.in_ok-answer.answer) (held_of c.list.new.seat.table_id knows)) same
     (subst (λ (name : TableId).
-    IsCall Does commands (held_of table me) (Ok c.in_ok-answer.answer)
+    IsCall Uncovered Does commands (held_of table me) (Ok c.in_ok-answer.answer)
     (held_of name (next me commands before after c.requires.holds c.slot_mut-carried.ensures.value told.goes_on covered)))
     (sym c.list.ensures.seat.table)
-    (is_call me commands before after c.requires.holds c.slot_mut-carried.ensures.value told.goes_on covered Does table
+    (is_call me commands before after c.requires.holds c.slot_mut-carried.ensures.value told.goes_on covered Uncovered Does table
     c.in_ok-answer.answer told.cover told.does))
 
 pub act-requires : goal.act-requires

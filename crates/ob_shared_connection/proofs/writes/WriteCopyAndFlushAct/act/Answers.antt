@@ -1,9 +1,9 @@
 use Rattle.ob_types.specs.declared.message.Message.TheVariants.{Block}
 use Rattle.ob_shared_connection.proofs.Flushing.{write_and_flush_go_on}
-use Rattle.std.proofs.Common.{refl, Ok}
+use Rattle.std.proofs.Common.{refl, rules, Ok}
 use Rattle.ob_types.specs.declared.command.Command.TheVariants.{Write}
 use Rattle.ob_connection.specs.Obeying.{written_reply}
-use Rattle.ob_shared_connection.proofs.Accepting.{accepts_obeyed}
+use Rattle.ob_shared_connection.proofs.Accepting.{accepts_obeyed, passes_flushed}
 use Rattle.ob_shared_connection.proofs.writes.WriteCopyAndFlushAct.act.Goals as goal
 
 pub returns-clause-goes_on : goal.returns-clause-goes_on
@@ -17,3 +17,14 @@ returns-clause-fits c bytes is ok before now within =
     (record { counts = refl; short = refl })
     (accepts_obeyed c.args.connection.now c.act.new.connection (Write (Block c.args.self.0.now)) written_reply
     (Ok c.in_ok-written.written) refl c.in_ok-written.ensures.does) before now within
+
+pub returns-then-room_lacks_block-clause-does : goal.returns-then-room_lacks_block-clause-does
+returns-then-room_lacks_block-clause-does c =
+    let lacks = c.if-room_lacks_block.ensures.lacks refl (Block c.args.self.0.now)
+    (record { counts = refl; short = refl }) in
+    let accepts = lacks.accepted in search rules
+
+pub returns-then-room_lacks_block-clause-lacks : goal.returns-then-room_lacks_block-clause-lacks
+returns-then-room_lacks_block-clause-lacks c uncovered =
+    passes_flushed c.args.connection.now (Block c.args.self.0.now) c.args.room
+    (c.if-room_lacks_block.ensures.lacks refl (Block c.args.self.0.now) (record { counts = refl; short = refl }))

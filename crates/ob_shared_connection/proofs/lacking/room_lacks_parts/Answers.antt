@@ -1,0 +1,16 @@
+use Rattle.std.proofs.Common.{ℕ, ◌∷◌, [], Option, sym, subst}
+use Rattle.ob_types.specs.declared.command.Command.TheVariants.{Write}
+use Rattle.ob_types.specs.declared.message.Message.TheVariants.{Block}
+use Rattle.ob_connection.specs.Obeying.{joined}
+use Rattle.ob_shared_connection.specs.Covers.{PassesRoom}
+use Rattle.ob_shared_connection.proofs.Accepting.{passes_room}
+use Rattle.ob_shared_connection.proofs.lacking.room_lacks_parts.Goals as goal
+
+pub returns-in-Some-clause-lacks : goal.returns-in-Some-clause-lacks
+returns-in-Some-clause-lacks c is =
+    let told = c.bytes_added_by_parts.ensures in
+    let accepts = told.accepted (c.passes.ensures.some is) in
+    subst (λ (room : Option ℕ). PassesRoom c.args.connection.now (Write (Block (joined c.args.parts.now)) ∷ []) room)
+    (sym c.in-Some.is)
+    (passes_room c.args.connection.now (Block (joined c.args.parts.now)) c.bytes_added_by_parts.result c.in-Some.room accepts
+    (told.exact accepts) (c.passes.ensures.more is))
