@@ -1,14 +1,15 @@
 -- A connection with a seat of its own at a budget.
-use Rattle.std.specs.Prelude.{◌≡◌, ◌≤◌, ◌+◌, ◌*◌, ℕ, List, Result, Ok, Err}
-use Rattle.ob_types.specs.PendingSize.{counted_bytes}
+use Rattle.std.specs.Prelude.{◌≡◌, ◌≤◌, ◌+◌, ◌*◌, ℕ, ⊤, false, List, Result, Ok, Err}
+use Rattle.ob_types.specs.PendingSize.{counted_bytes, is_oversize}
 use Rattle.ob_types.specs.declared.command.Command.{Command}
 use Rattle.ob_types.specs.declared.command.Command.TheVariants.{Write}
 use Rattle.ob_types.specs.declared.message.Message.{Message}
 use Rattle.ob_types.specs.declared.refusal.Refusal.{Refusal}
 use Rattle.ob_seq.specs.Effect.{rows_after}
 use Rattle.ob_seq.specs.Rows.{Settings, total}
+use Rattle.ob_seq.specs.State.{closed_after}
 use Rattle.ob_connection.specs.Connected.{Connected, StandsFor, Gives}
-use Rattle.ob_connection.specs.Obeying.{Obeys, written_reply}
+use Rattle.ob_connection.specs.Obeying.{Accepts, Obeys, written_reply}
 use Rattle.ob_connection.specs.declared.replies.Written.{Written}
 use Rattle.ob_budget.specs.declared.fault.RaiseFault.{RaiseFault}
 use Rattle.ob_covered.specs.Cover.{CoverValue, IsShort, HoldsAtMost}
@@ -39,13 +40,21 @@ pub record IsThrifty (old new : BudgetedValue) : Type 0 where
   pub is_pending : IsPending new.connection now
   pub spare : HoldsAtMost (now + 2 * new.cover.quantum) old.cover new.cover
 
--- the seat does not hold the message beside what is pending, and a raise by what it lacks was refused
+-- the connection is open and can count the message, its seat does not hold that beside what is pending, and a raise by
+-- what it lacks was refused
 pub record IsOverBudget (old : BudgetedValue) (message : Message) (fault : RaiseFault)
     (new : BudgetedValue) : Type 0 where
+  pub unclosed : Gives old.connection closed_after false
+  pub counted : is_oversize old.connection.unsent.settings.estimate message ≡ false
   pub same : new.connection ≡ old.connection
   pub now : ℕ
   pub is_pending : IsPending old.connection now
   pub short : IsShort (now + counted_bytes old.connection.unsent.settings.estimate message) fault old.cover new.cover
+
+-- a write that the budget refuses is one that the connection would accept
+abbrev pub OverBudgetAlone : Connected → Message → WriteFault → Type 0
+OverBudgetAlone old message (Refused refusal) = ⊤
+OverBudgetAlone old message (OverBudget fault) = Accepts old (Write message)
 
 -- the result of a write that the connection accepted
 abbrev pub accepted : Written → Result Written Refusal

@@ -7,7 +7,7 @@ ghost use Rattle.ob_types.specs.declared.message.Message.TheVariants.{Block};
 ghost use Rattle.ob_seq.specs.Unsent.{room_for_one_more};
 ghost use Rattle.ob_connection.specs.Connected.{room_in};
 ghost use Rattle.ob_connection.specs.Obeying.{Obeys, written_reply};
-ghost use Rattle.ob_covered.specs.Budgeted.{IsNotPut, IsNotWritten, IsPending, accepted};
+ghost use Rattle.ob_covered.specs.Budgeted.{IsNotPut, IsNotWritten, IsPending, OverBudgetAlone, accepted};
 ghost use Rattle.ob_covered.specs.Cover.{Tells, TakesSparingly};
 ghost use Rattle.ob_covered.specs.Inside.{HoldsBeside};
 
@@ -82,6 +82,7 @@ impl Budgeted {
             Obeys self.old.connection (Write (Block bytes.now)) written_reply (accepted written) self.new.connection) }
         ensures room { OnOk result.answer (room_in self.new.connection ≡ room_for_one_more self.old.connection.unsent) }
         ensures refused { IfErr result.answer (λ why. IsNotWritten self.old (Block bytes.now) why self.new) }
+        ensures last { IfErr result.answer (λ why. OverBudgetAlone self.old.connection (Block bytes.now) why) }
         ensures told { Tells self.old.cover result.pressure self.new.cover }
         ensures sparing { (now : ℕ) → IsPending self.old.connection now → TakesSparingly
             (now + counted_bytes self.old.connection.unsent.settings.estimate (Block bytes.now)) self.old.cover self.new.cover }
@@ -105,6 +106,7 @@ impl Budgeted {
             Obeys self.old.connection (Write (Block bytes.now)) written_reply (accepted written) self.new.connection) }
         ensures room { OnOk result.answer (room_in self.new.connection ≡ room_for_one_more self.old.connection.unsent) }
         ensures refused { IfErr result.answer (λ why. IsNotWritten self.old (Block bytes.now) why self.new) }
+        ensures last { IfErr result.answer (λ why. OverBudgetAlone self.old.connection (Block bytes.now) why) }
         ensures told { Tells self.old.cover result.pressure self.new.cover }
         ensures sparing { (now : ℕ) → IsPending self.old.connection now → TakesSparingly
             (now + counted_bytes self.old.connection.unsent.settings.estimate (Block bytes.now)) self.old.cover self.new.cover }
@@ -139,6 +141,7 @@ impl Budgeted {
             Obeys self.old.connection (Write (Block block.now)) written_reply (accepted written) self.new.connection) }
         ensures room { OnOk result.answer (room_in self.new.connection ≡ room_for_one_more self.old.connection.unsent) }
         ensures refused { IfErr result.answer (λ why. IsNotWritten self.old (Block block.now) why self.new) }
+        ensures last { IfErr result.answer (λ why. OverBudgetAlone self.old.connection (Block block.now) why) }
         ensures told { Tells self.old.cover result.pressure self.new.cover }
         ensures sparing { (now : ℕ) → IsPending self.old.connection now → TakesSparingly
             (now + counted_bytes self.old.connection.unsent.settings.estimate (Block block.now)) self.old.cover self.new.cover }
@@ -162,6 +165,7 @@ impl Budgeted {
             Obeys self.old.connection (Write (Block block.now)) written_reply (accepted written) self.new.connection) }
         ensures room { OnOk result.answer (room_in self.new.connection ≡ room_for_one_more self.old.connection.unsent) }
         ensures refused { IfErr result.answer (λ why. IsNotWritten self.old (Block block.now) why self.new) }
+        ensures last { IfErr result.answer (λ why. OverBudgetAlone self.old.connection (Block block.now) why) }
         ensures told { Tells self.old.cover result.pressure self.new.cover }
         ensures sparing { (now : ℕ) → IsPending self.old.connection now → TakesSparingly
             (now + counted_bytes self.old.connection.unsent.settings.estimate (Block block.now)) self.old.cover self.new.cover }
