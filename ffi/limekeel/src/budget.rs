@@ -243,12 +243,14 @@ impl BudgetedConnection {
     }
 
     /// Writes the bytes of a block, which the message then shares: nothing is copied.
+    #[inline]
     pub fn write_block(&mut self, block: &Block) -> Pressed<Result<Written, Refusal>> {
         let told = self.handle.write_block(&block.slot);
         self.waiters.written(told)
     }
 
     /// Writes bytes that are there for good: nothing is copied.
+    #[inline]
     pub fn write_static(&mut self, bytes: &'static [u8]) -> Pressed<Result<Written, Refusal>> {
         let told = self.handle.write_static(bytes);
         self.waiters.written(told)
@@ -294,24 +296,28 @@ impl BudgetedConnection {
     }
 
     /// As [`crate::Connection::flush`].
+    #[inline]
     pub fn flush(&mut self) -> Pressed<Result<Flushed, Refusal>> {
         let told = self.handle.flush();
         Pressed { answer: Flushed::of(told.flushed), pressure: self.waiters.turned(told.pressure) }
     }
 
     /// As [`crate::Connection::remove`].
+    #[inline]
     pub fn remove(&mut self) -> Pressed<Result<Removed, Refusal>> {
         let told = self.handle.remove();
         self.removed(told)
     }
 
     /// As [`crate::Connection::remove_with`].
+    #[inline]
     pub fn remove_with(&mut self, cause: u32) -> Pressed<Result<Removed, Refusal>> {
         let told = self.handle.remove_with(cause);
         self.removed(told)
     }
 
     /// As [`crate::Connection::take_sent`].
+    #[inline]
     pub fn take_sent(&mut self, n: u64) -> Pressed<Result<Taken, Refusal>> {
         let told = self.handle.take_sent(n);
         self.taken(told)
@@ -438,6 +444,7 @@ impl BudgetedConnection {
         self.handle.pieces(max_bytes)
     }
 
+    #[inline]
     fn removed(&mut self, told: sys::PressedRemoved) -> Pressed<Result<Removed, Refusal>> {
         let answer = Removed::of(told.removed);
         if let Ok(removed) = &answer {
@@ -446,6 +453,7 @@ impl BudgetedConnection {
         Pressed { answer, pressure: self.waiters.turned(told.pressure) }
     }
 
+    #[inline]
     fn taken(&mut self, told: sys::PressedTaken) -> Pressed<Result<Taken, Refusal>> {
         let answer = Taken::of(told.taken).map(|taken| self.cancelled.settled_by(taken));
         Pressed { answer, pressure: self.waiters.turned(told.pressure) }
@@ -463,6 +471,12 @@ impl Waiters {
     /// How a call changed pressure. Who waits for its end is woken.
     #[inline]
     pub(crate) fn turned(&self, number: u32) -> Option<Pressure> {
+        if number == sys::PRESSURE_UNCHANGED { None } else { self.turned_by(number) }
+    }
+
+    // Few calls turn it: apart, so that a call is small enough to be inlined.
+    #[cold]
+    fn turned_by(&self, number: u32) -> Option<Pressure> {
         let turn = Pressure::of(number);
         if turn == Some(Pressure::Ended) {
             self.ring();
