@@ -70,12 +70,12 @@ extern uint64_t queue_stops;
 void queue_share(uint64_t room, uint64_t high, uint64_t quantum);
 
 /* Whether pressure stands, as the last change said; and so whether a response may be made now: the queue is writable and, under
- * pressure, nothing in it waits, or its client takes much. */
+ * pressure, its client takes much, or nothing in it waits. */
 extern bool queue_pressed;
 bool queue_is_fast(const struct queue *queue);
 static inline bool queue_may_write(const struct queue *queue)
 {
-    return queue->writable && (!queue_pressed || queue_pending(queue) == 0 || queue_is_fast(queue));
+    return queue->writable && (!queue_pressed || queue_is_fast(queue) || queue_pending(queue) == 0);
 }
 
 /* What all queues hold of the budget, and whether it has room for a message of this size now. */
