@@ -25,9 +25,8 @@ struct queue {
 #ifdef BUDGETED
     uint64_t since, took; /* what its socket took since then, in milliseconds and bytes, while pressure stood */
     bool fast;            /* whether it took much in the time before */
-#else
-    struct limekeel_rooms rooms;
 #endif
+    struct limekeel_rooms rooms;
 #ifdef JOINED
     uint8_t *at;         /* where the next message is made */
     size_t filled, room; /* how long it is, and may be */

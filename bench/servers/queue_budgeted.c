@@ -36,7 +36,7 @@ static void note_pressure(uint32_t pressure)
 
 void queue_open(struct queue *queue, uint32_t low, uint32_t high)
 {
-    *queue = (struct queue){.connection = LIMEKEEL_BUDGETED, .writable = true};
+    *queue = (struct queue){.connection = LIMEKEEL_BUDGETED, .writable = true, .rooms = LIMEKEEL_ROOMS};
     queue->broken = limekeel_open_within(&queue->connection, low, high, OVERHEAD, 8, &budget) != LIMEKEEL_OK;
 }
 
@@ -47,6 +47,7 @@ void queue_free(struct queue *queue)
         done = limekeel_budgeted_free(&queue->connection);
         note_pressure(done.pressure);
     } while (done.status == LIMEKEEL_BUSY);
+    limekeel_let_go(&queue->rooms, UINT64_MAX);
 }
 
 uint64_t queue_held(void)
@@ -74,6 +75,16 @@ static enum written was_written(struct queue *queue, struct limekeel_pressed_wri
     case LIMEKEEL_BUSY: return NO_ROOM;
     default: return NOT_WRITTEN;
     }
+}
+
+uint8_t *queue_room(struct queue *queue, uint32_t size)
+{
+    return limekeel_reserve(&queue->rooms, size);
+}
+
+enum written queue_made(struct queue *queue, uint32_t size)
+{
+    return was_written(queue, limekeel_budgeted_write_reserved(&queue->rooms, &queue->connection, size));
 }
 
 enum written queue_write(struct queue *queue, const uint8_t *bytes, uint32_t size)
@@ -130,6 +141,7 @@ enum sent queue_send(struct queue *queue, int socket, uint32_t turns)
     struct limekeel_pressed_sent told = limekeel_budgeted_send(&queue->connection, socket, turns);
     note(queue, told.sent.taken.change);
     note_pressure(told.pressure);
+    limekeel_let_go(&queue->rooms, told.sent.taken.to);
     if (queue_pressed)
         note_taken(queue, told.sent.bytes);
     return how_it_ended(told.sent);

@@ -5,22 +5,6 @@
 
 uint64_t queue_stops;
 
-#ifdef BUDGETED
-/* A write copies, so a message is made where the last one was. */
-static uint8_t message[1u << 20];
-
-uint8_t *queue_room(struct queue *queue, uint32_t size)
-{
-    (void)queue;
-    return size <= sizeof message ? message : NULL;
-}
-
-enum written queue_made(struct queue *queue, uint32_t size)
-{
-    return queue_write(queue, message, size);
-}
-#endif
-
 /* A change of writability is told once. */
 static inline void note(struct queue *queue, uint32_t change)
 {
