@@ -26,7 +26,7 @@ use ob_transport::Sink;
 use std::marker::Brand;
 use std::sync::Wait;
 use std::sync::atomic::AtomicBool;
-use std::thread::Threads;
+use std::thread::{Parker, Threads};
 use std::time::Clock;
 
 /// Carries plans out, each by a writer in a thread of its own, and beside them lets a sink take what is flushed. It
@@ -36,8 +36,9 @@ use std::time::Clock;
 /// with the estimate of the message and the bytes of a hand-off, calls the buffer, and discharges. A command that the
 /// buffer refuses is recorded, and no fault. The transport makes one pass at a desk. If the sink fails, it fails all
 /// that is flushed, for the fault's number, and goes on. It ends when all writers have ended and nothing is flushed or
-/// the sink takes nothing, or after `turns` passes. With nothing to do while a writer runs it sleeps a millisecond. With
-/// `heed` a writer waits for it, by naps of a millisecond, while the buffer is unwritable; how long is not promised.
+/// the sink takes nothing, or after `turns` passes. With nothing to do it sleeps a millisecond, but not past the end of
+/// the last writer. With `heed` a writer waits for it, by naps of a millisecond, while the buffer is unwritable; how long
+/// is not promised.
 ///
 /// `BadCount` comes if there is no plan, or more than 64; then `BadPlan` names the first step that is no write, flush,
 /// cancellation, user bit or change of the marks; then `TooMuchRoom` comes if the greatest charges of all plans add up
@@ -147,6 +148,7 @@ fn drive_open<
         begun: AtomicBool::new(false),
         stopped: AtomicBool::new(false),
         ended: AtomicBool::new(false),
+        rested: Parker::new(),
     };
     let start = Start {
         writers: Writers { lane, jobs },

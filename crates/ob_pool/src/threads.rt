@@ -155,5 +155,6 @@ fn writers_side<L: Named + Send + Sync, R: Threads + Wait + Clock + Sync, G: Gat
     }
     let ended = run_all(rt, gate, context, writers);
     context.ended.store(true, Ordering::SeqCst);
+    context.rested.unpark();
     ended
 }

@@ -4,6 +4,7 @@ use ob_transport::Limits;
 use ob_types::Estimate;
 use std::alloc::Global;
 use std::sync::atomic::AtomicBool;
+use std::thread::Parker;
 
 /// What all writers of a drive use together, and its transport.
 #[derive(Drop)]
@@ -28,4 +29,6 @@ pub struct Context<L: Named> {
     pub stopped: AtomicBool,
     /// Whether all writers have ended.
     pub ended: AtomicBool,
+    /// Where the transport rests, until it is told that all writers have ended.
+    pub rested: Parker,
 }

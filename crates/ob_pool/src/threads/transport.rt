@@ -18,10 +18,9 @@ use ob_transport::{Limits, Pass, PassFault, Sink, pass};
 use ob_types::{Cause, Command, Refusal};
 use std::sync::Wait;
 use std::sync::atomic::Ordering;
-use std::thread::sleep;
 use std::time::{Clock, Duration};
 
-/// How many milliseconds the transport sleeps if there is nothing to do and a writer still runs.
+/// How many milliseconds the transport sleeps at most if there is nothing to do and a writer still runs.
 const NAP: u64 = 1;
 
 /// What comes after a pass.
@@ -64,7 +63,7 @@ pub fn transport<L: Named, S: Sink, R: Wait + Clock>(
             if last {
                 break;
             }
-            sleep(rt, Duration::from_millis(NAP));
+            context.rested.park_timeout(rt, Duration::from_millis(NAP));
         }
     }
     Ok(Done {

@@ -1,4 +1,5 @@
 use Rattle.std.proofs.Common.{◌++◌, [], ◌∷◌, sym, subst, rules}
+use Rattle.std.proofs.lemmas.Nat.Bits.{bit_at-zero}
 use Rattle.ob_history.specs.History.{History}
 use Rattle.ob_pool.specs.Report.HandedIn.{HaveHandedIn}
 use Rattle.ob_pool.proofs.report.ending.into_report.Goals as goal
@@ -17,5 +18,10 @@ returns-clause-ended g c = record {
         saw = c.in-Ok.ensures.saw;
       });
   counts = c.report_of.ensures.counted;
-  rest = record { total = search rules; clear = search rules; mark = search rules };
+  rest = record {
+    total = search rules;
+    clear = λ index above. rw c.report_of.ensures.hand
+        (c.in-Ok-finish.ensures.foreign index above (rw c.requires.no_bit (bit_at-zero index)));
+    mark = search rules;
+  };
 }
