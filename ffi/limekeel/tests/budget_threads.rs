@@ -95,6 +95,8 @@ fn who_waits_goes_on_when_pressure_ends() {
     let (seen, _) = while_served(LONG, |address, budget| {
         let mut client = TcpStream::connect(address).expect("it is accepted");
         asks(&mut client, 10);
+        // nothing tells when the server's threads have gone on to wait for a line and for a client
+        thread::sleep(PATIENCE);
         let marks = Marks { low: 1, high: 1 << 30 };
         let mut pressing = BudgetedConnection::within(budget, marks, Estimate::default()).expect("there is memory");
         for _ in 0..7 {
