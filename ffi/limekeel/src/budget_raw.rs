@@ -6,7 +6,7 @@ use std::ptr::null_mut;
 
 use crate::budget::Bounds;
 use crate::connection::{Estimate, Marks};
-use crate::lends::{Archived, Lends};
+use crate::lends::{Archived, Lends, told};
 use crate::lent::Lent;
 use crate::raw::{Gather, Place, Slot, commands, front_removals, looks, removals};
 use crate::replies::{Refusal, done};
@@ -122,23 +122,24 @@ impl Budgeted {
         current() -> sys::Current = limekeel_budgeted_current;
     }
 
-    #[inline]
+    /// Writes a copy of these bytes, which the archive makes.
+    #[cold]
     pub(crate) fn write(&mut self, bytes: &[u8]) -> sys::PressedWritten {
         // SAFETY: the handle is this value's own; the pointer and the length are those of one slice.
-        unsafe { sys::limekeel_budgeted_write_bytes(&mut self.inner, bytes.as_ptr(), bytes.len()) }
+        told(&unsafe { sys::limekeel_budgeted_write_bytes(&mut self.inner, bytes.as_ptr(), bytes.len()) })
     }
 
     /// Writes bytes that are there for good.
     #[inline]
     pub(crate) fn write_static(&mut self, bytes: &'static [u8]) -> sys::PressedWritten {
         // SAFETY: the handle is this value's own; the pointer and the length are those of one slice, which stays as it is.
-        unsafe { sys::limekeel_budgeted_write_lent_bytes(&mut self.inner, bytes.as_ptr(), bytes.len()) }
+        told(&unsafe { sys::limekeel_budgeted_write_lent_bytes(&mut self.inner, bytes.as_ptr(), bytes.len()) })
     }
 
     #[inline]
     pub(crate) fn write_block(&mut self, block: &Slot) -> sys::PressedWritten {
         // SAFETY: both handles are their values' own, and two values; the block is only read.
-        unsafe { sys::limekeel_budgeted_write_block(&mut self.inner, block.inner()) }
+        told(&unsafe { sys::limekeel_budgeted_write_block(&mut self.inner, block.inner()) })
     }
 }
 

@@ -54,8 +54,8 @@ impl Connection {
         Ok(Connection { handle, cancelled: Cancelled::default() })
     }
 
-    /// Writes a copy of these bytes after all else. They are not sent before a flush. Small messages that wait together
-    /// share memory.
+    /// Writes a copy of these bytes after all else. They are not sent before a flush. Messages of at most 2048 bytes that
+    /// wait together share memory. If it is refused, nothing has changed.
     #[inline]
     pub fn write(&mut self, bytes: &[u8]) -> Result<Written, Refusal> {
         Written::of(self.handle.write(bytes))

@@ -6,6 +6,14 @@ use std::any::Any;
 use crate::lent::{Kept, Lent, Owner};
 use crate::replies::{Refusal, done};
 
+/// What the archive told, read number by number: read as a whole it is in other pieces than it was written in, for which the
+/// processor waits as long as for the write itself.
+#[inline(always)]
+pub(crate) fn told(whole: &sys::PressedWritten) -> sys::PressedWritten {
+    let sys::PressedWritten { written: sys::Written { status, change, id }, pressure } = *whole;
+    sys::PressedWritten { written: sys::Written { status, change, id }, pressure }
+}
+
 /// The handle of a connection of the archive's that bytes are lent to.
 #[derive(Debug)]
 pub(crate) enum Archived<'a> {
@@ -28,11 +36,14 @@ impl Archived<'_> {
             match self {
                 Archived::Connection(handle) => unpressed(sys::limekeel_write_lent_bytes(*handle, at, length)),
                 Archived::Managed(handle) => unpressed(sys::limekeel_managed_write_lent_bytes(*handle, at, length)),
-                Archived::Budgeted(handle) => sys::limekeel_budgeted_write_lent_bytes(*handle, at, length),
+                Archived::Budgeted(handle) => told(&sys::limekeel_budgeted_write_lent_bytes(*handle, at, length)),
             }
         }
     }
 }
+
+/// The longest message of which a copy shares a chunk, in bytes: as in the archive.
+const LONGEST: usize = 2048;
 
 /// A connection, and what its messages are lent. Whoever has both lets go of what is lent as the archive tells a message as gone,
 /// and drops it after the connection.
@@ -55,6 +66,18 @@ impl<T> Owned<T> {
 }
 
 impl Lends<'_> {
+    /// Writes a copy of few bytes, made where messages are made in place: so it needs no count of owners, which the archive would
+    /// keep for it. If there is no memory for that, or they are many, it does nothing, and the archive is to be asked.
+    #[inline]
+    pub(crate) fn write_copy(self, bytes: &[u8]) -> Option<sys::PressedWritten> {
+        if bytes.len() > LONGEST {
+            return None;
+        }
+        let mut made = Made::new(self, bytes.len()).ok()?;
+        made.add(bytes);
+        Some(made.write())
+    }
+
     /// Writes the bytes of an owner, and keeps it until the message is gone.
     #[inline]
     pub(crate) fn write_owned<T: AsRef<[u8]> + Send + 'static>(mut self, owner: T) -> Owned<T> {

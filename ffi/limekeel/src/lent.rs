@@ -83,6 +83,8 @@ pub(crate) struct Lent {
     chunk: Vec<u8>,
     /// The promise of the last message in it.
     last: u64,
+    /// Whether full chunks were among the owners since there was no room for any.
+    had_full: bool,
 }
 
 impl Debug for Lent {
@@ -135,6 +137,7 @@ impl Lent {
         let shared = (2 * self.chunk.capacity()).clamp(SMALL, LARGE);
         next.try_reserve_exact(most.max(shared)).map_err(refused)?;
         self.make_room()?;
+        self.had_full = true;
         let full = replace(&mut self.chunk, next);
         self.keep(self.last, Kept::List(full));
         Ok(())
@@ -181,7 +184,8 @@ impl Lent {
             // a drop of the owner's that panics leaves the others for the next call
             drop(owner);
         }
-        if self.owners.capacity() > FEW {
+        // who lends owners one by one keeps room for some, and who copies or makes messages none
+        if self.had_full || self.owners.capacity() > FEW {
             self.give_back();
         }
         if self.last < end {
@@ -199,6 +203,7 @@ impl Lent {
     pub(crate) fn give_back(&mut self) {
         if self.owners.is_empty() {
             self.owners = VecDeque::new();
+            self.had_full = false;
         }
     }
 }

@@ -97,6 +97,9 @@ impl Managed {
 
     #[inline]
     pub(crate) fn write(&mut self, bytes: &[u8]) -> sys::Written {
+        if let Some(told) = self.lends().write_copy(bytes) {
+            return told.written;
+        }
         // SAFETY: the handle is this value's own; the pointer and the length are those of one slice.
         unsafe { sys::limekeel_managed_write_bytes(&mut self.inner, bytes.as_ptr(), bytes.len()) }
     }

@@ -1,6 +1,6 @@
-//! Where this crate allocates: a cancellation before it is in time, a write of what it is to own and a reservation before they
-//! are made, and nothing else. Counts, and may refuse, what is
-//! allocated by Rust on this thread; the archive's own memory is that of the C library.
+//! Where this crate allocates: a cancellation before it is in time, a write of what it is to own, a copy of few bytes and a
+//! reservation before they are made, and nothing else. Counts, and may refuse, what is allocated by Rust on this thread; the
+//! archive's own memory is that of the C library.
 
 use limekeel::{Connection, Estimate, Marks, Outcome, Promise, Refusal};
 use std::alloc::{GlobalAlloc, Layout, System};
@@ -123,6 +123,41 @@ fn giving_up_does_not_allocate() {
     let taken = taken.expect("it is open");
     assert_eq!((taken.promises.clone(), taken.count, taken.change, asked), (0..10, 10, None, 0));
     assert_eq!(ids(taken.settled(), Outcome::Failed(6)), [0, 2, 3, 4, 6, 7, 9]);
+}
+
+#[test]
+fn copies_of_few_bytes_share_memory_and_keep_none_once_they_are_sent() {
+    let mut connection = Connection::open(Marks::default(), Estimate::default()).expect("there is memory");
+    let kept = LIVE.get();
+    // without memory here the archive copies, in its own
+    let (written, asked) = refused(|| connection.write(&[0; 64]));
+    assert_eq!((written.expect("it is accepted").id, asked), (0, 1));
+    let before = ASKED.get();
+    for id in 1..1000 {
+        assert_eq!(connection.write(&[id as u8; 64]).expect("it is accepted").id, id);
+    }
+    assert!(ASKED.get() - before < 20, "{} allocations", ASKED.get() - before);
+    assert!(LIVE.get() - kept < 999 * 64 + 2 * 16384, "{} bytes", LIVE.get() - kept);
+    let asked = ASKED.get();
+    assert_eq!(connection.write(&[9; 2049]).expect("it is accepted").id, 1000);
+    assert_eq!(ASKED.get(), asked, "many bytes are copied by the archive");
+    let _ = connection.flush().expect("it is open");
+    let mut came = Vec::new();
+    while connection.send_to(&mut came).expect("it takes all").more {}
+    let wanted: Vec<u8> = (0..1000).flat_map(|id| [id as u8; 64]).chain([9; 2049]).collect();
+    assert!(came == wanted);
+    drop((came, wanted));
+    assert_eq!(LIVE.get(), kept, "what it keeps");
+}
+
+#[test]
+fn a_copy_is_refused_as_the_archive_refuses_it() {
+    let mut connection = Connection::open(Marks::default(), Estimate::default()).expect("there is memory");
+    let kept = LIVE.get();
+    let _ = connection.close(1).expect("nothing is flushed");
+    assert_eq!(connection.write(&[1; 64]), Err(Refusal::Closed));
+    assert_eq!(refused(|| connection.write(&[1; 64])), (Err(Refusal::Closed), 1));
+    assert_eq!((LIVE.get(), connection.counts().waiting), (kept, 0));
 }
 
 #[test]
