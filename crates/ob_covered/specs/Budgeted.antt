@@ -1,5 +1,5 @@
 -- A connection with a seat of its own at a budget.
-use Rattle.std.specs.Prelude.{◌≡◌, ◌≤◌, ◌+◌, ◌*◌, ℕ, ⊤, false, List, Result, Ok, Err}
+use Rattle.std.specs.Prelude.{◌≡◌, ◌≤◌, ◌+◌, ◌*◌, ℕ, ⊤, false, List, Result, Ok, Err, IfErr, OnOk}
 use Rattle.ob_types.specs.PendingSize.{counted_bytes, is_oversize}
 use Rattle.ob_types.specs.declared.command.Command.{Command}
 use Rattle.ob_types.specs.declared.command.Command.TheVariants.{Write}
@@ -12,7 +12,8 @@ use Rattle.ob_connection.specs.Connected.{Connected, StandsFor, Gives}
 use Rattle.ob_connection.specs.Obeying.{Accepts, Obeys, written_reply}
 use Rattle.ob_connection.specs.declared.replies.Written.{Written}
 use Rattle.ob_budget.specs.declared.fault.RaiseFault.{RaiseFault}
-use Rattle.ob_covered.specs.Cover.{CoverValue, IsShort, HoldsAtMost}
+use Rattle.ob_covered.specs.Cover.{CoverValue, IsShort, HoldsAtMost, TakesSparingly, Tells}
+use Rattle.ob_covered.specs.declared.fault.Told.{Told}
 use Rattle.ob_covered.specs.declared.fault.WriteFault.{WriteFault}
 use Rattle.ob_covered.specs.declared.fault.WriteFault.TheVariants.{Refused, OverBudget}
 
@@ -74,3 +75,12 @@ abbrev pub IsNotWritten : BudgetedValue → Message → WriteFault → BudgetedV
 IsNotWritten old message (Refused refusal) new =
     Obeys old.connection (Write message) written_reply (refused refusal) new.connection
 IsNotWritten old message (OverBudget fault) new = IsOverBudget old message fault new
+
+-- the seat was asked to hold this many bytes beside what is pending: it does, or a raise by what it lacks was refused
+pub record CoversAhead (bytes : ℕ) (old : BudgetedValue) (told : Told (Result ⊤ RaiseFault)) (new : BudgetedValue) : Type 0 where
+  pub same : new.connection ≡ old.connection
+  pub covered : OnOk told.answer ((now : ℕ) → IsPending old.connection now → now + bytes ≤ new.cover.seat.account.held)
+  pub sparing : (now : ℕ) → IsPending old.connection now → TakesSparingly (now + bytes) old.cover new.cover
+  pub short : IfErr told.answer (λ fault. (now : ℕ) → IsPending old.connection now
+      → IsShort (now + bytes) fault old.cover new.cover)
+  pub tells : Tells old.cover told.pressure new.cover

@@ -4,6 +4,7 @@ ghost use Rattle.ob_connection.specs.Connected.{StandsFor};
 ghost use Rattle.ob_covered.specs.Budgeted.{BudgetedValue, IsWithin, IsPending};
 ghost use Rattle.ob_covered.specs.Cover.{CoverValue, Tells, HoldsAtMost};
 
+mod ahead;
 mod commands;
 mod copying;
 mod giving_up;
