@@ -72,6 +72,8 @@ impl Connection {
     ///
     /// `Closed` comes if the connection is closed, and then `TooManyBytes` if the flushed blocks before the first other
     /// message hold fewer bytes; both leave everything as it was.
+    // As at `Contents::add`, of the reply.
+    #[inline(always)]
     pub fn take_sent(&mut self, n: u64) -> Result<Taken, Refusal>
         ensures obeys { Obeys self.old (RemoveBytes n) taken_reply result self.new }
         ensures next { IsNext self.old Success result self.new }

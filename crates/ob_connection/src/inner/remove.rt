@@ -1,15 +1,14 @@
 //! The call that takes one message away.
 
 ghost use Rattle.std.specs.Prelude.{IsErrOf};
-ghost use Rattle.ob_types.specs.declared.command.Command.TheVariants.{Cancel, Flush, Progress, SetMarks, UserBit};
 ghost use Rattle.ob_seq.specs.Steps.Commands.{removal_step};
-ghost use Rattle.ob_connection.specs.Becoming.{Moves, Steps};
-ghost use Rattle.ob_connection.specs.Connected.{KeepsRoom, TakesNoRoom};
-ghost use Rattle.ob_connection.specs.Obeying.{bit_reply, cancelled_reply, done_reply, flushed_reply, removed_reply};
+ghost use Rattle.ob_connection.specs.Becoming.{Steps};
+ghost use Rattle.ob_connection.specs.Connected.{TakesNoRoom};
+ghost use Rattle.ob_connection.specs.Obeying.{removed_reply};
 
 use crate::inner::Inner;
-use crate::replies::{Flushed, Removed};
-use ob_types::{Change, Outcome, Refusal, WaterMark};
+use crate::replies::Removed;
+use ob_types::{Outcome, Refusal};
 
 impl Inner {
     /// The step of `Connection::remove`, and with a cause as its outcome of `Connection::remove_with`.

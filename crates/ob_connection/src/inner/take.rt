@@ -19,6 +19,8 @@ use ob_types::{Cause, Change, Outcome, Refusal};
 
 impl Inner {
     /// The step of `Connection::take_sent`.
+    // As at `Contents::add`, of the reply.
+    #[inline(always)]
     pub fn take_sent(&mut self, n: u64) -> Result<Taken, Refusal>
         ensures moves { Moves self.old (RemoveBytes n) taken_reply result self.new }
         ensures next { IsNext self.old Success result self.new }
