@@ -65,7 +65,7 @@ extern "C" {
 
 /* A number of the structs, functions and numbers of this header. limekeel_open says LIMEKEEL_OTHER_VERSION to an archive of
  * another. Before 1.0 each version may have another. */
-#define LIMEKEEL_EDGE 4237248169u
+#define LIMEKEEL_EDGE 1894342440u
 
 /* What may tell a change of writability is not to be dropped. */
 #if (defined(__cplusplus) && __cplusplus >= 201703L) || (defined(__STDC_VERSION__) && __STDC_VERSION__ >= 202311L)
@@ -755,6 +755,11 @@ LIMEKEEL_TOLD struct limekeel_pressed_done limekeel_budgeted_free(struct limekee
  * is idle, as before a thread or task waits with nothing to send. */
 LIMEKEEL_TOLD struct limekeel_pressed_done limekeel_budgeted_rest(struct limekeel_budgeted *budgeted);
 
+/* Lets it hold `bytes` beside what is pending: for the next message, by all that this counts, before its bytes are made. Then the
+ * budget does not refuse the write, which takes nothing of it. LIMEKEEL_OVER_BUDGET and LIMEKEEL_BUSY come as of a write, and then
+ * nothing has changed. What no write used goes back with the next flush or removal, down to the quantum. */
+LIMEKEEL_TOLD struct limekeel_pressed_done limekeel_budgeted_cover(struct limekeel_budgeted *budgeted, uint32_t bytes);
+
 /* The writes, as those of a connection. LIMEKEEL_OVER_BUDGET and LIMEKEEL_BUSY come after LIMEKEEL_CLOSED and LIMEKEEL_OVERSIZE, and
  * before anything is allocated; LIMEKEEL_OVER_BUDGET only if there was no room at one moment while the call ran. */
 LIMEKEEL_TOLD struct limekeel_pressed_written limekeel_budgeted_write_bytes(struct limekeel_budgeted *budgeted,
@@ -963,30 +968,43 @@ LIMEKEEL_TOLD struct limekeel_pressed_sent limekeel_budgeted_send(struct limekee
  * limekeel_write_lent. One connection has one of these, which is let go of as messages are taken away. */
 struct limekeel_chunk;
 struct limekeel_rooms {
-    struct limekeel_chunk *first, *last; /* Limekeel's */
+    struct limekeel_chunk *first, *last; /* Limekeel's, as what follows */
+    uint8_t *at;                         /* where the next message is made; NULL: there is no chunk */
+    size_t left;                         /* and how many bytes there is room for there */
+    uint64_t end;                        /* above the promise of the last message in that chunk; 0: there is none */
 };
 #ifdef __cplusplus
-#define LIMEKEEL_ROOMS {nullptr, nullptr}
+#define LIMEKEEL_ROOMS {nullptr, nullptr, nullptr, 0, 0}
 #else
 #define LIMEKEEL_ROOMS {0}
 #endif
 
+/* What limekeel_reserve does if there is too little room: it begins a chunk. */
+uint8_t *limekeel_reserve_chunk(struct limekeel_rooms *rooms, size_t most);
+
 /* Where a message of at most `most` bytes may be made, or NULL if memory is refused. It is good until the next reserve, write
  * or let go. */
-uint8_t *limekeel_reserve(struct limekeel_rooms *rooms, size_t most);
+static inline uint8_t *limekeel_reserve(struct limekeel_rooms *rooms, size_t most)
+{
+    return rooms->at && rooms->left >= most ? rooms->at : limekeel_reserve_chunk(rooms, most);
+}
 
 /* How many bytes there is room for there: at least as many as were reserved, since small messages share memory. */
-size_t limekeel_left(const struct limekeel_rooms *rooms);
+static inline size_t limekeel_left(const struct limekeel_rooms *rooms)
+{
+    return rooms->left;
+}
 
 /* Writes the first `length` bytes there, at most as many as there is room for, as limekeel_write_lent does. */
-LIMEKEEL_TOLD struct limekeel_written limekeel_write_reserved(struct limekeel_rooms *rooms, struct limekeel_connection *connection,
-                                                              size_t length);
+LIMEKEEL_TOLD static inline struct limekeel_written limekeel_write_reserved(struct limekeel_rooms *rooms,
+                                                                            struct limekeel_connection *connection, size_t length);
 
 /* The same of a managed connection, and of one that a budget covers. */
-LIMEKEEL_TOLD struct limekeel_written limekeel_managed_write_reserved(struct limekeel_rooms *rooms,
-                                                                      struct limekeel_managed *managed, size_t length);
-LIMEKEEL_TOLD struct limekeel_pressed_written limekeel_budgeted_write_reserved(struct limekeel_rooms *rooms,
-                                                                               struct limekeel_budgeted *budgeted, size_t length);
+LIMEKEEL_TOLD static inline struct limekeel_written limekeel_managed_write_reserved(struct limekeel_rooms *rooms,
+                                                                                    struct limekeel_managed *managed, size_t length);
+LIMEKEEL_TOLD static inline struct limekeel_pressed_written limekeel_budgeted_write_reserved(struct limekeel_rooms *rooms,
+                                                                                             struct limekeel_budgeted *budgeted,
+                                                                                             size_t length);
 
 /* Frees what only messages below this promise lie in. Call it with the `to` of each limekeel_taken, or after limekeel_remove
  * with one more than its promise; and with UINT64_MAX after limekeel_free, which frees all. */
@@ -1093,6 +1111,41 @@ LIMEKEEL_TOLD static inline struct limekeel_pressed_written limekeel_budgeted_wr
                                                                                         const void *bytes, size_t length)
 {
     return limekeel_budgeted_write_lent_bytes(budgeted, length > 0 ? (const uint8_t *)bytes : (const uint8_t *)"", length);
+}
+
+/* A message that was written where it was made keeps its bytes there. */
+static inline void limekeel_keep_reserved(struct limekeel_rooms *rooms, struct limekeel_written written, size_t length)
+{
+    if (written.status == LIMEKEEL_OK && rooms->at) {
+        rooms->at += length;
+        rooms->left -= length;
+        rooms->end = written.id + 1;
+    }
+}
+
+LIMEKEEL_TOLD static inline struct limekeel_written limekeel_write_reserved(struct limekeel_rooms *rooms,
+                                                                            struct limekeel_connection *connection, size_t length)
+{
+    struct limekeel_written written = limekeel_write_lent(connection, rooms->at, length);
+    limekeel_keep_reserved(rooms, written, length);
+    return written;
+}
+
+LIMEKEEL_TOLD static inline struct limekeel_written limekeel_managed_write_reserved(struct limekeel_rooms *rooms,
+                                                                                    struct limekeel_managed *managed, size_t length)
+{
+    struct limekeel_written written = limekeel_managed_write_lent(managed, rooms->at, length);
+    limekeel_keep_reserved(rooms, written, length);
+    return written;
+}
+
+LIMEKEEL_TOLD static inline struct limekeel_pressed_written limekeel_budgeted_write_reserved(struct limekeel_rooms *rooms,
+                                                                                             struct limekeel_budgeted *budgeted,
+                                                                                             size_t length)
+{
+    struct limekeel_pressed_written told = limekeel_budgeted_write_lent(budgeted, rooms->at, length);
+    limekeel_keep_reserved(rooms, told.written, length);
+    return told;
 }
 
 LIMEKEEL_TOLD static inline struct limekeel_written limekeel_write_parts(struct limekeel_connection *connection,

@@ -62,6 +62,11 @@ static bool frees(struct limekeel_budgeted *budgeted, uint32_t pressure)
     return told.status == LIMEKEEL_OK && told.pressure == pressure && limekeel_budgeted_free(budgeted).status == LIMEKEEL_NOT_OPEN;
 }
 
+static bool gave(struct limekeel_pressed_done told, uint32_t status, uint32_t pressure)
+{
+    return told.status == status && told.pressure == pressure;
+}
+
 /* A struct that holds nothing is told so by each call. */
 static void holds_nothing(void)
 {
@@ -76,6 +81,7 @@ static void holds_nothing(void)
         limekeel_open_within(&none, 1, 2, 3, 4, &no_budget),
         limekeel_budgeted_free(&none).status,
         limekeel_budgeted_rest(&none).status,
+        limekeel_budgeted_cover(&none, 1).status,
         limekeel_budgeted_look_at_budget(&none).status,
         limekeel_budgeted_write(&none, "x", 1).written.status,
         limekeel_budgeted_write_lent(&none, "x", 1).written.status,
@@ -150,6 +156,22 @@ static void keeps_within(void)
     expect("closed", was(limekeel_budgeted_write(&fast, "x", 1), LIMEKEEL_CLOSED, 0) && limekeel_budgeted_state(&fast).closed);
     expect("freed", frees(&fast, 0) && frees(&slow, 0) && limekeel_budget_look(&budget).total == 0);
     expect("and the rest", limekeel_block_free(&block) == LIMEKEEL_OK && limekeel_budget_free(&budget) == LIMEKEEL_OK);
+}
+
+/* Cover that is asked for before a message is made: it is there for the write, and what is not used goes back. */
+static void covers_ahead(void)
+{
+    struct limekeel_budget budget = budget_of(1000, 200, 800, 0);
+    struct limekeel_budgeted one = within(&budget), other = within(&budget);
+    expect("a message of 100", gave(limekeel_budgeted_cover(&one, 100), LIMEKEEL_OK, 0) && stands(&budget, &one, 100, false));
+    expect("is written by that", was(limekeel_budgeted_write(&one, "four", 4), LIMEKEEL_OK, 0) && stands(&budget, &one, 100, false));
+    expect("beside what is pending", gave(limekeel_budgeted_cover(&one, 800), LIMEKEEL_OK, LIMEKEEL_PRESSURE_BEGAN));
+    expect("which is held", stands(&budget, &one, 900, true) && limekeel_budgeted_state(&one).held == 900);
+    expect("once alone", gave(limekeel_budgeted_cover(&one, 800), LIMEKEEL_OK, 0) && stands(&budget, &one, 900, true));
+    expect("not more than there is", gave(limekeel_budgeted_cover(&other, 101), LIMEKEEL_OVER_BUDGET, 0) && stands(&budget, &one, 900, true));
+    struct limekeel_pressed_flushed flushed = limekeel_budgeted_flush(&one);
+    expect("a flush gives back", flushed.pressure == LIMEKEEL_PRESSURE_ENDED && stands(&budget, &one, 100, false));
+    expect("freed", frees(&one, 0) && frees(&other, 0) && limekeel_budget_free(&budget) == LIMEKEEL_OK);
 }
 
 /* What a connection takes at once, keeps and gives back; and that a free gives all back, and tells the end of pressure. */
@@ -319,11 +341,6 @@ static bool holds(struct limekeel_budget *budget, uint64_t total)
     return told.status == LIMEKEEL_OK && told.total == total;
 }
 
-static bool gave(struct limekeel_pressed_done told, uint32_t status, uint32_t pressure)
-{
-    return told.status == status && told.pressure == pressure;
-}
-
 /* A connection with two handles within a budget that has no room beyond ten messages of 100 bytes. */
 static void shares_a_connection(void)
 {
@@ -448,6 +465,7 @@ int main(int count, char **words)
         rounds = atoi(words[1]);
     holds_nothing();
     keeps_within();
+    covers_ahead();
     keeps_quanta();
     is_a_connection();
     sends();

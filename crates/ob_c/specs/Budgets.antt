@@ -14,6 +14,7 @@ use Rattle.ob_budget.specs.Bounds.{BoundsValue}
 use Rattle.ob_budget.specs.Calls.{HasLooked}
 use Rattle.ob_budget.specs.Word.{is_pressed, total_of}
 use Rattle.ob_budget.specs.declared.fault.BoundsFault.{BoundsFault}
+use Rattle.ob_budget.specs.declared.fault.RaiseFault.{RaiseFault}
 use Rattle.ob_budget.specs.declared.fault.RaiseFault.TheVariants.{Full, Busy}
 use Rattle.ob_budget.specs.declared.pressure.Look.{Look}
 use Rattle.ob_budget.specs.declared.pressure.Pressure.{Pressure}
@@ -212,6 +213,17 @@ pub record Rests (old : BudgetedValue) (pressure : Option Pressure) (new : Budge
 abbrev pub rested_in_c : Option (Option Pressure) → PressedDone
 rested_in_c None = record { status = not_open; pressure = 0 }
 rested_in_c (Some pressure) = record { status = done; pressure = pressure_number pressure }
+
+-- an answer to who asked for cover
+abbrev pub asked_status : Result ⊤ RaiseFault → ℕ
+asked_status (Ok covered) = done
+asked_status (Err Full) = over_budget
+asked_status (Err Busy) = busy
+
+-- the same of a handle, with the turn of pressure
+abbrev pub covered_ahead_in_c : Option (Told (Result ⊤ RaiseFault)) → PressedDone
+covered_ahead_in_c None = record { status = not_open; pressure = 0 }
+covered_ahead_in_c (Some told) = record { status = asked_status told.answer; pressure = pressure_number told.pressure }
 
 -- the connection is let go with its seat, which has given back all that it held; if others came in between too often, the
 -- seat stays with what it holds, under a connection with nothing written

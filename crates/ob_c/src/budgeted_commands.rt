@@ -5,7 +5,8 @@ ghost use Rattle.ob_types.specs.declared.command.Command.TheVariants.{Flush, Pro
 ghost use Rattle.ob_types.specs.declared.command.Command.TheVariants.{Remove, RemoveWith, RemoveBytes, FailFlushed, Close};
 ghost use Rattle.ob_types.specs.declared.promise.Outcome.TheVariants.{Success, Failed};
 ghost use Rattle.ob_connection.specs.Obeying.{bit_reply, cancelled_reply, done_reply, flushed_reply, removed_reply};
-ghost use Rattle.ob_c.specs.Budgets.{SettlesFor, SetsMarksWithin, Rests, rested_in_c};
+ghost use Rattle.ob_covered.specs.Budgeted.{CoversAhead};
+ghost use Rattle.ob_c.specs.Budgets.{SettlesFor, SetsMarksWithin, Rests, covered_ahead_in_c, rested_in_c};
 ghost use Rattle.ob_c.specs.Budgets.{pressed_cancelled_in_c, pressed_changed_in_c, pressed_done_in_c, pressed_flushed_in_c};
 ghost use Rattle.ob_c.specs.Budgets.{pressed_removed_in_c, pressed_taken_in_c};
 ghost use Rattle.ob_c.specs.Obeying.{GivesUpIfOpen, ObeysFrugally, Relays, Takes};
@@ -15,7 +16,8 @@ use crate::numbers::NOT_OPEN;
 use crate::pressed::{
     PressedCancelled, PressedChanged, PressedDone, PressedFlushed, PressedRemoved, PressedTaken,
 };
-use ob_budget::Pressure;
+use ob_budget::{Pressure, RaiseFault};
+use ob_covered::Told;
 use ob_types::{Cause, WaterMark};
 
 /// Lets the transport have all that was written so far.
@@ -142,6 +144,25 @@ pub extern "C" fn limekeel_budgeted_set_marks(
             pressure: 0,
         },
     }
+}
+
+/// Lets the seat hold `bytes` beside what is pending, so that a write which counts no more is not refused for the budget.
+///
+/// The status is 13 if there is no connection, 21 if the budget has no room for them, and 18 if other seats came in between
+/// 65,536 times.
+#[unsafe(no_mangle)]
+pub extern "C" fn limekeel_budgeted_cover(budgeted: &mut Budgeted, bytes: u32) -> PressedDone
+    ensures { Relays budgeted.old.value (CoversAhead bytes) covered_ahead_in_c result budgeted.new.value }
+{
+    PressedDone::covered_ahead(budgeted.with(|connection| cover_ahead(connection, bytes)))
+}
+
+/// Asks for cover of this many bytes beside what is pending.
+#[inline(always)]
+fn cover_ahead(connection: &mut ob_covered::Budgeted, bytes: u32) -> Told<Result<(), RaiseFault>>
+    ensures { CoversAhead bytes connection.old result connection.new }
+{
+    connection.cover_ahead(bytes)
 }
 
 /// Gives back all that the seat holds above what is pending, unless other seats come in between 65,536 times: for a

@@ -54,6 +54,9 @@ pub extern "C" fn limekeel_gather_pieces(
 }
 
 /// Fills pieces from a connection.
+// Apart, its answer goes through memory, and is read there by other pieces than it was written in, for which the processor
+// waits: as long as to fill one.
+#[inline(always)]
 pub(crate) fn fill(connection: &Connection, pieces: &mut [Piece], max_bytes: u32) -> Gathered
     ensures gathers { Gathers (Some connection.now) (length pieces.old) max_bytes result pieces.new (Some connection.now) }
     ensures rest { drop result.count pieces.new ≡ drop result.count pieces.old }

@@ -1,7 +1,7 @@
 //! What the calls of a connection that a budget covers return to C: a reply, and how pressure at the budget changed.
 
 ghost use Rattle.std.specs.Prelude.{◌≡◌};
-ghost use Rattle.ob_c.specs.Budgets.{fault_number, pressure_number, rested_in_c, settled, settled_write};
+ghost use Rattle.ob_c.specs.Budgets.{asked_status, covered_ahead_in_c, fault_number, pressure_number, rested_in_c, settled, settled_write};
 ghost use Rattle.ob_c.specs.Budgets.{pressed_cancelled_in_c, pressed_changed_in_c, pressed_done_in_c, pressed_flushed_in_c};
 ghost use Rattle.ob_c.specs.Budgets.{pressed_removed_in_c, pressed_taken_in_c, pressed_written_in_c};
 
@@ -58,6 +58,17 @@ fn fault_number(why: WriteFault) -> u32
     }
 }
 
+/// The status of an answer to who asked for cover.
+fn asked_status(answer: Result<(), RaiseFault>) -> u32
+    ensures { result ≡ asked_status answer }
+{
+    match answer {
+        Ok(()) => DONE,
+        Err(RaiseFault::Full) => OVER_BUDGET,
+        Err(RaiseFault::Busy) => BUSY,
+    }
+}
+
 /// What a command returns that has nothing more to say.
 #[repr(C)]
 #[derive(Clone, Copy)]
@@ -77,6 +88,22 @@ impl PressedDone {
         PressedDone {
             status: status_of(answer),
             pressure,
+        }
+    }
+
+    /// What C gets for a question for cover.
+    pub(crate) fn covered_ahead(told: Option<Told<Result<(), RaiseFault>>>) -> PressedDone
+        ensures { result ≡ covered_ahead_in_c told }
+    {
+        let Some(Told { answer, pressure }) = told else {
+            return PressedDone {
+                status: NOT_OPEN,
+                pressure: 0,
+            };
+        };
+        PressedDone {
+            status: asked_status(answer),
+            pressure: pressure_number(pressure),
         }
     }
 

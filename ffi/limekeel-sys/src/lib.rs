@@ -23,7 +23,7 @@ mod heap;
 pub const PIECES: usize = 1024;
 
 /// A number of these declarations, which `limekeel_open_for` compares with the archive's.
-pub const EDGE: u32 = 4237248169;
+pub const EDGE: u32 = 1894342440;
 
 macro_rules! numbers {
     ($($name:ident = $number:literal),* $(,)?) => {
@@ -336,6 +336,7 @@ unsafe extern "C" {
     ) -> u32;
     pub fn limekeel_budgeted_free(budgeted: *mut Budgeted) -> PressedDone;
     pub fn limekeel_budgeted_rest(budgeted: *mut Budgeted) -> PressedDone;
+    pub fn limekeel_budgeted_cover(budgeted: *mut Budgeted, bytes: u32) -> PressedDone;
     pub fn limekeel_budgeted_write_bytes(budgeted: *mut Budgeted, bytes: *const u8, length: usize) -> PressedWritten;
     pub fn limekeel_budgeted_write_block(budgeted: *mut Budgeted, block: *const Block) -> PressedWritten;
     pub fn limekeel_budgeted_write_lent_bytes(

@@ -214,6 +214,28 @@ impl BudgetedConnection {
         self.waiters.turned(told.pressure)
     }
 
+    /// Lets it hold `bytes` beside what is pending: for the next message, by all that this counts, before its bytes are made. Then
+    /// the budget does not refuse the write, which takes nothing of it.
+    ///
+    /// [`Refusal::OverBudget`] and [`Refusal::Busy`] come as of a write, and then nothing has changed. What no write used goes back
+    /// with the next flush or removal, down to the quantum.
+    ///
+    /// ```
+    /// use limekeel::{Bounds, Budget, BudgetedConnection, Estimate, Marks, Refusal};
+    ///
+    /// let budget = Budget::open(Bounds { room: 1000, low: 200, high: 800 }, 0)?;
+    /// let mut connection = BudgetedConnection::within(&budget, Marks::default(), Estimate::default())?;
+    /// assert_eq!(connection.cover(905).answer, Ok(()));
+    /// assert_eq!(connection.cover(1001).answer, Err(Refusal::OverBudget));
+    /// let page = vec![b'.'; 905 - 96];
+    /// let _ = connection.write(&page).answer?;
+    /// # Ok::<(), limekeel::Refusal>(())
+    /// ```
+    pub fn cover(&mut self, bytes: u32) -> Pressed<Result<(), Refusal>> {
+        let told = self.handle.cover(bytes);
+        Pressed { answer: done(told.status), pressure: self.waiters.turned(told.pressure) }
+    }
+
     /// Lets it go with all that waits in it, and gives back all that it holds. Promises that wait are not reported: give it up
     /// before.
     #[must_use = "nothing tells the change of pressure again"]

@@ -92,6 +92,7 @@ impl Budgeted {
     commands! {
         free() -> sys::PressedDone = limekeel_budgeted_free;
         rest() -> sys::PressedDone = limekeel_budgeted_rest;
+        cover(bytes: u32) -> sys::PressedDone = limekeel_budgeted_cover;
         look_at_budget() -> sys::BudgetTold = limekeel_budgeted_look_at_budget;
         write_region(length: u64) -> sys::PressedWritten = limekeel_budgeted_write_region;
         write_other(value: u32) -> sys::PressedWritten = limekeel_budgeted_write_other;

@@ -51,6 +51,20 @@ fn pressure_is_told_as_it_begins_and_as_it_ends() {
 }
 
 #[test]
+fn cover_is_there_for_the_write_that_it_was_asked_for() {
+    let budget = open(BOUNDS, 0);
+    let (mut one, mut other) = (within(&budget), within(&budget));
+    assert_eq!((one.cover(100).answer, write(&mut one), budget.look().total), (Ok(()), Ok(None), 100));
+    let told = one.cover(800);
+    assert_eq!((told.answer, told.pressure, one.held()), (Ok(()), Some(Pressure::Began), 900));
+    let told = other.cover(101);
+    assert_eq!((told.answer, told.pressure, other.held()), (Err(Refusal::OverBudget), None, 0));
+    // what no write used goes back
+    let told = one.flush();
+    assert_eq!((told.pressure, one.held(), budget.is_pressed()), (Some(Pressure::Ended), 100, false));
+}
+
+#[test]
 fn bounds_are_refused() {
     let crossed = Budget::open(Bounds { room: 10, low: 3, high: 2 }, 0);
     let too_much = Budget::open(Bounds { room: 1 << 62, low: 2, high: 3 }, 0);
