@@ -189,9 +189,9 @@ static bool publish(struct client *client, struct request request, uint32_t inde
 /* Makes a response where it is to lie, and writes it. What finds no room is work again. */
 static bool respond(struct client *client, struct request request, uint32_t index)
 {
-    enum written written = NOT_WRITTEN;
-    uint8_t *at = queue_room(&client->queue, request.size);
-    if (at) {
+    uint8_t *at = NULL;
+    enum written written = queue_room(&client->queue, request.size, &at);
+    if (written == WRITTEN) {
         response_make(at, request.id, index, request.size);
         written = queue_made(&client->queue, request.size);
     }

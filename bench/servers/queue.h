@@ -41,9 +41,9 @@ enum sent { SENT_ALL, SENT_BLOCKED, SENT_SOME, SENT_BROKEN };
 void queue_open(struct queue *queue, uint32_t low, uint32_t high);
 void queue_free(struct queue *queue);
 
-/* Where the next message, of this size, is to be made; NULL: there is no memory. And writes what was made there, before any
- * other call for this queue. */
-uint8_t *queue_room(struct queue *queue, uint32_t size);
+/* Where the next message, of this size, is to be made: WRITTEN if it may be. And writes what was made there, before any other call
+ * for this queue. */
+enum written queue_room(struct queue *queue, uint32_t size, uint8_t **at);
 enum written queue_made(struct queue *queue, uint32_t size);
 
 /* Writes a copy of these bytes. */

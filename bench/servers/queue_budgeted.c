@@ -65,11 +65,10 @@ void queue_rest(struct queue *queue)
     note_pressure(limekeel_budgeted_rest(&queue->connection).pressure);
 }
 
-static enum written was_written(struct queue *queue, struct limekeel_pressed_written told)
+static enum written what_came(uint32_t status, uint32_t pressure)
 {
-    note(queue, told.written.change);
-    note_pressure(told.pressure);
-    switch (told.written.status) {
+    note_pressure(pressure);
+    switch (status) {
     case LIMEKEEL_OK: return WRITTEN;
     case LIMEKEEL_OVER_BUDGET:
     case LIMEKEEL_BUSY: return NO_ROOM;
@@ -77,9 +76,22 @@ static enum written was_written(struct queue *queue, struct limekeel_pressed_wri
     }
 }
 
-uint8_t *queue_room(struct queue *queue, uint32_t size)
+static enum written was_written(struct queue *queue, struct limekeel_pressed_written told)
 {
-    return limekeel_reserve(&queue->rooms, size);
+    note(queue, told.written.change);
+    return what_came(told.written.status, told.pressure);
+}
+
+/* The budget is asked before the response is made, and so none is made in vain. Behind it the processor would let all its bytes go
+ * to memory first. */
+enum written queue_room(struct queue *queue, uint32_t size, uint8_t **at)
+{
+    struct limekeel_pressed_done told = limekeel_budgeted_cover(&queue->connection, size + OVERHEAD);
+    enum written came = what_came(told.status, told.pressure);
+    if (came != WRITTEN)
+        return came;
+    *at = limekeel_reserve(&queue->rooms, size);
+    return *at ? WRITTEN : NOT_WRITTEN;
 }
 
 enum written queue_made(struct queue *queue, uint32_t size)
@@ -117,18 +129,22 @@ static uint64_t now(void)
     return (uint64_t)time.tv_sec * 1000 + (uint64_t)time.tv_nsec / 1000000;
 }
 
+/* When the last sending under pressure was: each response asks for it. */
+static uint64_t last_sent;
+
 bool queue_is_fast(const struct queue *queue)
 {
-    return queue->fast && now() - queue->since < 2 * WHILE;
+    return queue->fast && last_sent - queue->since < 2 * WHILE;
 }
 
+/* Who took much in less than a while is fast at once, and stays so unless it takes less in the next. */
 static void note_taken(struct queue *queue, uint64_t bytes)
 {
-    uint64_t time = now(), passed = time - queue->since;
-    queue->took += bytes;
-    if (passed < WHILE)
+    uint64_t time = last_sent = now(), passed = time - queue->since;
+    queue->took = passed < 2 * WHILE ? queue->took + bytes : bytes;
+    if (queue->took < MUCH && passed < WHILE)
         return;
-    queue->fast = passed < 2 * WHILE && queue->took >= MUCH;
+    queue->fast = queue->took >= MUCH;
     queue->since = time;
     queue->took = 0;
 }

@@ -55,10 +55,13 @@ static struct chunk *with_room(struct queue *queue, uint32_t size)
     return chunk;
 }
 
-uint8_t *queue_room(struct queue *queue, uint32_t size)
+enum written queue_room(struct queue *queue, uint32_t size, uint8_t **at)
 {
     struct chunk *chunk = with_room(queue, size);
-    return chunk ? chunk->bytes + chunk->used : NULL;
+    if (!chunk)
+        return NOT_WRITTEN;
+    *at = chunk->bytes + chunk->used;
+    return WRITTEN;
 }
 
 enum written queue_made(struct queue *queue, uint32_t size)
@@ -72,8 +75,8 @@ enum written queue_made(struct queue *queue, uint32_t size)
 
 enum written queue_write(struct queue *queue, const uint8_t *bytes, uint32_t size)
 {
-    uint8_t *at = queue_room(queue, size);
-    if (!at)
+    uint8_t *at;
+    if (queue_room(queue, size, &at) != WRITTEN)
         return NOT_WRITTEN;
     memcpy(at, bytes, size);
     return queue_made(queue, size);

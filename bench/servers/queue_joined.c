@@ -9,7 +9,7 @@
 
 #define FEW 2048u  /* up to so many bytes are copied: more that many clients hear share a block */
 #define MUCH 8192u /* with so many bytes a message is ended, so that the marks know of it */
-#define OVERHEAD 0 /* there are few messages: the marks go by their bytes alone, as those of the queue by hand */
+#define OVERHEAD 0 /* the marks go by the bytes alone, as those of the queue by hand */
 
 void queue_open(struct queue *queue, uint32_t low, uint32_t high)
 {
@@ -48,11 +48,12 @@ static bool begin_message(struct queue *queue, uint32_t size)
     return true;
 }
 
-uint8_t *queue_room(struct queue *queue, uint32_t size)
+enum written queue_room(struct queue *queue, uint32_t size, uint8_t **at)
 {
     if (queue->room - queue->filled < size && !begin_message(queue, size))
-        return NULL;
-    return queue->at + queue->filled;
+        return NOT_WRITTEN;
+    *at = queue->at + queue->filled;
+    return WRITTEN;
 }
 
 enum written queue_made(struct queue *queue, uint32_t size)
@@ -63,8 +64,8 @@ enum written queue_made(struct queue *queue, uint32_t size)
 
 enum written queue_write(struct queue *queue, const uint8_t *bytes, uint32_t size)
 {
-    uint8_t *at = queue_room(queue, size);
-    if (!at)
+    uint8_t *at;
+    if (queue_room(queue, size, &at) != WRITTEN)
         return NOT_WRITTEN;
     memcpy(at, bytes, size);
     return queue_made(queue, size);

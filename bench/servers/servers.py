@@ -61,13 +61,15 @@ def archive(folder):
     return [f"-I{made}/include", made / "lib/liblimekeel.a"]
 
 
-def build(folder, wanted=None):
-    """Builds the load and the servers, all or those that are wanted, and returns how each is started."""
+def build(folder, wanted=None, overhead=0):
+    """Builds the load and the servers, all or those that are wanted, and returns how each is started. The overhead is what a
+    message of the plain one counts beside its bytes."""
     include, library = archive(folder)
     subprocess.run([*CC, folder / "load", "load.c", "clients.c", "process.c", "-lpthread"], cwd=HERE, check=True)
     rust = ["cargo", "build", "--offline", "--release", "--quiet", "--manifest-path", "rust/Cargo.toml", "--target-dir"]
     recipes = {
-        OURS: ([folder / "limekeel"], [*CC, folder / "limekeel", include, "epoll_server.c", "queue_limekeel.c", library]),
+        OURS: ([folder / "limekeel"],
+               [*CC, folder / "limekeel", include, f"-DOVERHEAD={overhead}", "epoll_server.c", "queue_limekeel.c", library]),
         JOINED: ([folder / "joined"], [*CC, folder / "joined", include, "-DJOINED", "epoll_server.c", "queue_joined.c", library]),
         BUDGETED: ([folder / "budgeted"],
                    [*CC, folder / "budgeted", include, "-DBUDGETED", "epoll_server.c", "queue_budgeted.c", library]),

@@ -14,9 +14,8 @@ const IS_JOINED: bool = cfg!(feature = "joined");
 const FEW: usize = 2048;
 /// With how many a message is ended, so that the marks know of it.
 const MUCH: usize = 8192;
-/// Joined there are few messages: the marks go by their bytes alone, as those of the queue by hand.
-const ESTIMATE: Estimate =
-    if IS_JOINED { Estimate { overhead: 0, unknown: 8 } } else { Estimate { overhead: 96, unknown: 8 } };
+/// The marks go by the bytes alone, as those of the queue by hand.
+const ESTIMATE: Estimate = Estimate { overhead: 0, unknown: 8 };
 
 /// What became of a sending.
 #[derive(PartialEq, Eq)]
@@ -118,7 +117,7 @@ impl Client {
     }
 
     pub fn write_block(&mut self, block: &Block) -> Result<(), Refusal> {
-        if IS_JOINED && block.len() <= FEW {
+        if block.len() <= FEW {
             return self.write(block);
         }
         self.end_message()?;
