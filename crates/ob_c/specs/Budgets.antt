@@ -1,9 +1,8 @@
 -- What an export promises of a budget, and of a connection that it covers.
-use Rattle.std.specs.Prelude.{◌≡◌, ◌<◌, ◌+◌, ◌/◌, ℕ, ⊤, Bool, true, false, List, [], Option, Some, None, option_map, Result, Ok, Err, IfOk, IfErr}
-use Rattle.ob_types.specs.PendingSize.{counted_bytes}
+use Rattle.std.specs.Prelude.{◌≡◌, ◌<◌, ◌/◌, ℕ, ⊤, Bool, true, false, List, [], Option, Some, None, option_map, Result, Ok, Err}
 use Rattle.ob_types.specs.Refusal.{number_of}
 use Rattle.ob_types.specs.WaterMark.{Marks}
-use Rattle.ob_types.specs.declared.command.Command.TheVariants.{Write, SetMarks}
+use Rattle.ob_types.specs.declared.command.Command.TheVariants.{SetMarks}
 use Rattle.ob_types.specs.declared.message.Message.{Message}
 use Rattle.ob_types.specs.declared.message.Message.TheVariants.{Block as AsBlock}
 use Rattle.ob_types.specs.declared.refusal.Refusal.{Refusal}
@@ -20,13 +19,13 @@ use Rattle.ob_budget.specs.declared.pressure.Look.{Look}
 use Rattle.ob_budget.specs.declared.pressure.Pressure.{Pressure}
 use Rattle.ob_budget.specs.declared.pressure.Pressure.TheVariants.{Began, Ended}
 use Rattle.ob_connection.specs.Connected.{Connected, StandsFor, Gives}
-use Rattle.ob_connection.specs.Obeying.{Obeys, done_reply, written_reply}
+use Rattle.ob_connection.specs.Obeying.{done_reply}
 use Rattle.ob_connection.specs.declared.replies.Flushed.{Flushed as FlushedReply}
 use Rattle.ob_connection.specs.declared.replies.Removed.{Removed as RemovedReply}
 use Rattle.ob_connection.specs.declared.replies.Taken.{Taken as TakenReply}
 use Rattle.ob_connection.specs.declared.replies.Written.{Written as WrittenReply}
-use Rattle.ob_covered.specs.Budgeted.{BudgetedValue, IsNotWritten, IsPending, IsThrifty, accepted as written_as}
-use Rattle.ob_covered.specs.Cover.{CoverValue, IsFirst, HoldsAtMost, TakesSparingly, Tells, left_of, given_by}
+use Rattle.ob_covered.specs.Budgeted.{BudgetedValue, IsPending, IsThrifty, WritesWithin}
+use Rattle.ob_covered.specs.Cover.{CoverValue, IsFirst, HoldsAtMost, Tells, left_of, given_by}
 use Rattle.ob_covered.specs.declared.fault.Told.{Told}
 use Rattle.ob_covered.specs.declared.fault.WriteFault.{WriteFault}
 use Rattle.ob_covered.specs.declared.fault.WriteFault.TheVariants.{Refused, OverBudget}
@@ -181,21 +180,10 @@ SetsMarksWithin (Some old) (Err refusal) told new =
 SetsMarksWithin (Some old) (Ok marks) told new =
     SettlesFor (Some old) (ObeysFrugally (SetMarks marks) done_reply) pressed_done_in_c told new
 
--- a message is written as by a connection, or refused as by one, or since the budget does not cover it; the seat has told
--- the turn of pressure that is returned, and takes no more than it lacks and a quantum
-pub record WritesWithin (message : Message) (old : BudgetedValue) (told : Told (Result WrittenReply WriteFault))
-    (new : BudgetedValue) : Type 0 where
-  pub written : IfOk told.answer (λ written.
-      Obeys old.connection (Write message) written_reply (written_as written) new.connection)
-  pub refused : IfErr told.answer (λ why. IsNotWritten old message why new)
-  pub tells : Tells old.cover told.pressure new.cover
-  pub sparing : (now : ℕ) → IsPending old.connection now
-      → TakesSparingly (now + counted_bytes old.connection.unsent.settings.estimate message) old.cover new.cover
-
--- the same of a handle
+-- a message is written within the budget by the connection of a handle
 abbrev pub WritesFor : Option BudgetedValue → Message → PressedWritten → Option BudgetedValue → Type 0
 WritesFor handle message told new =
-    Relays handle (WritesWithin message) (λ answer. pressed_written_in_c (settled_write answer)) told new
+    Relays handle (WritesWithin (λ why. why) message) (λ answer. pressed_written_in_c (settled_write answer)) told new
 
 -- the bytes of a block are written, if there are both a connection and a block
 abbrev pub WritesBlockWithin : Option BudgetedValue → Option (List ℕ) → PressedWritten → Option BudgetedValue → Type 0

@@ -5,7 +5,8 @@
 
 ghost use Rattle.std.specs.Prelude.{◌≡◌};
 ghost use Rattle.ob_types.specs.declared.message.Message.TheVariants.{Block as AsBlock, Region as AsRegion, Other as AsOther};
-ghost use Rattle.ob_c.specs.Budgets.{WritesBlockWithin, WritesFor, WritesWithin};
+ghost use Rattle.ob_c.specs.Budgets.{WritesBlockWithin, WritesFor};
+ghost use Rattle.ob_covered.specs.Budgeted.{WritesWithin};
 
 use crate::block::Block;
 use crate::budgeted::Budgeted;
@@ -89,7 +90,7 @@ fn write_copy(
     connection: &mut ob_covered::Budgeted,
     bytes: &[u8],
 ) -> Told<Result<Written, WriteFault>>
-    ensures { WritesWithin (AsBlock bytes.now) connection.old result connection.new }
+    ensures { WritesWithin (λ why. why) (AsBlock bytes.now) connection.old result connection.new }
 {
     connection.write_copy(bytes)
 }
@@ -100,7 +101,7 @@ fn write_shared(
     connection: &mut ob_covered::Budgeted,
     bytes: &Bytes,
 ) -> Told<Result<Written, WriteFault>>
-    ensures { WritesWithin (AsBlock bytes.now) connection.old result connection.new }
+    ensures { WritesWithin (λ why. why) (AsBlock bytes.now) connection.old result connection.new }
 {
     connection.write_shared(bytes)
 }
@@ -111,7 +112,7 @@ fn write(
     connection: &mut ob_covered::Budgeted,
     message: Message,
 ) -> Told<Result<Written, WriteFault>>
-    ensures { WritesWithin message connection.old result connection.new }
+    ensures { WritesWithin (λ why. why) message connection.old result connection.new }
 {
     let Told { answer, pressure } = connection.write(message);
     match answer {

@@ -1,6 +1,6 @@
 -- What is pending of a connection after a write that the budget let through.
 use Rattle.std.proofs.Common.{◌≡◌, ℕ, ◌+◌, ◌≤◌, Bool, true, false, [], ◌∷◌, ◌++◌, if◌then◌else◌, sym, refl, ap, ◌∙◌, subst, arith}
-use Rattle.std.specs.Prelude.{Result, Ok, Err, IfErr, OnOk}
+use Rattle.std.specs.Prelude.{Result, Ok, Err, Option, None, IfErr, OnOk}
 use Rattle.std.proofs.lemmas.List.Sums.{fold-append, sum_by_push}
 use Rattle.ob_types.specs.PendingSize.{counted_bytes, is_oversize, pending_size_of}
 use Rattle.ob_types.specs.declared.command.Command.TheVariants.{Write}
@@ -10,13 +10,16 @@ use Rattle.ob_types.specs.declared.refusal.Refusal.{Refusal}
 use Rattle.ob_types.specs.declared.refusal.Refusal.TheVariants.{Oversize}
 use Rattle.ob_seq.specs.Effect.{effect, rows_after}
 use Rattle.ob_seq.specs.Rows.{new_row, counted_size}
-use Rattle.ob_connection.specs.Connected.{Connected, StandsForSome}
+use Rattle.ob_seq.specs.Unsent.{room_for_one_more}
+use Rattle.ob_budget.specs.declared.pressure.Pressure.{Pressure}
+use Rattle.ob_connection.specs.Connected.{Connected, StandsForSome, room_in}
 use Rattle.ob_connection.specs.Looks.{Shows}
 use Rattle.ob_connection.specs.Obeying.{Obeys, written_reply}
 use Rattle.ob_connection.specs.declared.look.Look.{Look}
 use Rattle.ob_connection.specs.declared.replies.Written.{Written}
-use Rattle.ob_covered.specs.Budgeted.{BudgetedValue, pending, IsPending, IsWithin, IsNotPut, IsNotWritten, accepted}
-use Rattle.ob_covered.specs.Cover.{CoverValue, TakesSparingly}
+use Rattle.ob_covered.specs.Budgeted.{BudgetedValue, pending, IsPending, IsWithin, IsNotWritten, WritesWithin, accepted}
+use Rattle.ob_covered.specs.Cover.{CoverValue, TakesSparingly, Tells}
+use Rattle.ob_covered.specs.Inside.{Covers, IsNotPut, let_through}
 use Rattle.ob_covered.specs.declared.fault.WriteFault.{WriteFault}
 use Rattle.ob_covered.specs.declared.fault.WriteFault.TheVariants.{Refused, OverBudget}
 use Rattle.ob_covered.proofs.Pending.{shown, covered}
@@ -87,3 +90,66 @@ pub refused_as : {E : Type 0} (why : E → WriteFault) (old new : BudgetedValue)
     → IfErr result (λ not. IsNotWritten old message (why not) new)
 refused_as why old new message (Ok written) refused = refused
 refused_as why old new message (Err not) refused = refused_one old new message (why not) refused
+
+-- and it tells of no turn
+pub tells_nothing : (cover : CoverValue) → Tells cover None cover
+tells_nothing cover =
+    record { quantum = refl; budget = refl; seats = refl; began = omega arith; ended = omega arith }
+
+-- what the connection answered to a block, as an answer that was let through
+block_grows : (old new : Connected) (message : Message) (answer : Result Written Refusal) (look : Look) → StandsForSome old
+    → Obeys old (Write message) written_reply answer new → Shows new look
+    → OnOk (let_through answer) ((before : ℕ) → IsPending old before
+    → IsPending new (before + counted_bytes old.unsent.settings.estimate message))
+block_grows old new message (Ok written) look some obeys shows = grows old new message written look some obeys shows
+block_grows old new message (Err refusal) look some obeys shows = tt
+
+block_refused : (old new : Connected) (message : Message) (answer : Result Written Refusal)
+    → Obeys old (Write message) written_reply answer new → IfErr (let_through answer) (λ why. IsNotPut old message why new)
+block_refused old new message (Ok written) obeys = tt
+block_refused old new message (Err refusal) obeys = obeys
+
+-- a cover that was taken, of the connection as it is kept
+pub covers_by : (message : Message) (old between new : BudgetedValue) (pressure : Option Pressure)
+    (answer : Result (Option Pressure) WriteFault) → answer ≡ Ok pressure → between ≡ new → Covers message old answer new
+    → Covers message old (Ok pressure) between
+covers_by message old between new pressure answer is kept covers =
+    subst (λ v. Covers message old (Ok pressure) v) (sym kept) (subst (λ a. Covers message old a new) is covers)
+
+-- so a seat that covers the block covers the connection after it, whatever that answered
+pub block_within : (message : Message) (old between : BudgetedValue) (pressure : Option Pressure)
+    (answer : Result Written Refusal) (new : Connected) (look : Look) → StandsForSome old.connection
+    → Covers message old (Ok pressure) between → Obeys between.connection (Write message) written_reply answer new
+    → Shows new look → IsWithin between.connection between.cover.seat.account.held
+    → IsWithin new between.cover.seat.account.held
+block_within message old between pressure answer new look some covers obeys shows within =
+    let held = between.cover.seat.account.held in
+    let obeyed = subst (λ c. Obeys c (Write message) written_reply answer new) covers.same obeys in
+    put_within (λ why. why) old.connection new message (let_through answer) covers.holds.now held held
+    (subst (λ c. IsWithin c held) covers.same within) (omega arith)
+    (block_grows old.connection new message answer look some obeyed shows)
+    (block_refused old.connection new message answer obeyed) covers.holds.is_pending covers.holds.fits
+
+-- and the write is one within the budget
+writes_by : (message : Message) (old new : BudgetedValue) (pressure : Option Pressure) (answer : Result Written Refusal)
+    → Tells old.cover pressure new.cover
+    → ((now : ℕ) → IsPending old.connection now
+    → TakesSparingly (now + counted_bytes old.connection.unsent.settings.estimate message) old.cover new.cover)
+    → Obeys old.connection (Write message) written_reply answer new.connection
+    → OnOk answer (room_in new.connection ≡ room_for_one_more old.connection.unsent)
+    → WritesWithin (λ why. why) message old (record { answer = let_through answer; pressure = pressure }) new
+writes_by message old new pressure (Ok written) tells sparing obeys room =
+    record { written = obeys; room = room; refused = tt; tells = tells; sparing = sparing }
+writes_by message old new pressure (Err refusal) tells sparing obeys room =
+    record { written = tt; room = tt; refused = obeys; tells = tells; sparing = sparing }
+
+pub writes_block : (message : Message) (old between : BudgetedValue) (pressure : Option Pressure)
+    (answer : Result Written Refusal) (new : Connected) → Covers message old (Ok pressure) between
+    → Obeys between.connection (Write message) written_reply answer new
+    → OnOk answer (room_in new ≡ room_for_one_more between.connection.unsent)
+    → WritesWithin (λ why. why) message old (record { answer = let_through answer; pressure = pressure })
+    (record { connection = new; cover = between.cover })
+writes_block message old between pressure answer new covers obeys room =
+    writes_by message old (record { connection = new; cover = between.cover }) pressure answer covers.told covers.sparing
+    (subst (λ c. Obeys c (Write message) written_reply answer new) covers.same obeys)
+    (subst (λ c. OnOk answer (room_in new ≡ room_for_one_more c.unsent)) covers.same room)

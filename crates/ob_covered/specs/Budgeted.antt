@@ -1,5 +1,5 @@
 -- A connection with a seat of its own at a budget.
-use Rattle.std.specs.Prelude.{◌≡◌, ◌≤◌, ◌+◌, ◌*◌, ℕ, ⊤, false, List, Result, Ok, Err, IfErr, OnOk}
+use Rattle.std.specs.Prelude.{◌≡◌, ◌≤◌, ◌+◌, ◌*◌, ℕ, ⊤, false, List, Result, Ok, Err, IfOk, IfErr, OnOk}
 use Rattle.ob_types.specs.PendingSize.{counted_bytes, is_oversize}
 use Rattle.ob_types.specs.declared.command.Command.{Command}
 use Rattle.ob_types.specs.declared.command.Command.TheVariants.{Write}
@@ -8,7 +8,8 @@ use Rattle.ob_types.specs.declared.refusal.Refusal.{Refusal}
 use Rattle.ob_seq.specs.Effect.{rows_after}
 use Rattle.ob_seq.specs.Rows.{Settings, total}
 use Rattle.ob_seq.specs.State.{closed_after}
-use Rattle.ob_connection.specs.Connected.{Connected, StandsFor, Gives}
+use Rattle.ob_seq.specs.Unsent.{room_for_one_more}
+use Rattle.ob_connection.specs.Connected.{Connected, StandsFor, Gives, room_in}
 use Rattle.ob_connection.specs.Obeying.{Accepts, Obeys, written_reply}
 use Rattle.ob_connection.specs.declared.replies.Written.{Written}
 use Rattle.ob_budget.specs.declared.fault.RaiseFault.{RaiseFault}
@@ -65,16 +66,23 @@ accepted written = Ok written
 abbrev pub refused : Refusal → Result Written Refusal
 refused refusal = Err refusal
 
--- a write that the connection refused
-abbrev pub IsNotPut : Connected → Message → WriteFault → Connected → Type 0
-IsNotPut old message (Refused refusal) new = Obeys old (Write message) written_reply (refused refusal) new
-IsNotPut old message (OverBudget fault) new = ⊥
-
 -- a write is refused as the connection refuses it, or since the budget does
 abbrev pub IsNotWritten : BudgetedValue → Message → WriteFault → BudgetedValue → Type 0
 IsNotWritten old message (Refused refusal) new =
     Obeys old.connection (Write message) written_reply (refused refusal) new.connection
 IsNotWritten old message (OverBudget fault) new = IsOverBudget old message fault new
+
+-- a message is written as by the connection, or refused as by it, or since the budget does not cover it; the seat has told
+-- the turn of pressure that is returned, and takes no more than it lacks and a quantum
+pub record WritesWithin {E : Type 0} (why : E → WriteFault) (message : Message) (old : BudgetedValue)
+    (told : Told (Result Written E)) (new : BudgetedValue) : Type 0 where
+  pub written : IfOk told.answer (λ written.
+      Obeys old.connection (Write message) written_reply (accepted written) new.connection)
+  pub room : OnOk told.answer (room_in new.connection ≡ room_for_one_more old.connection.unsent)
+  pub refused : IfErr told.answer (λ fault. IsNotWritten old message (why fault) new)
+  pub tells : Tells old.cover told.pressure new.cover
+  pub sparing : (now : ℕ) → IsPending old.connection now
+      → TakesSparingly (now + counted_bytes old.connection.unsent.settings.estimate message) old.cover new.cover
 
 -- the seat was asked to hold this many bytes beside what is pending: it does, or a raise by what it lacks was refused
 pub record CoversAhead (bytes : ℕ) (old : BudgetedValue) (told : Told (Result ⊤ RaiseFault)) (new : BudgetedValue) : Type 0 where

@@ -5,8 +5,8 @@ ghost use Rattle.ob_seq.specs.Unsent.{room_for_one_more};
 ghost use Rattle.ob_seq.specs.State.{closed_after};
 ghost use Rattle.ob_connection.specs.Connected.{room_in, Gives};
 ghost use Rattle.ob_connection.specs.Obeying.{Obeys, written_reply};
-ghost use Rattle.ob_covered.specs.Budgeted.{IsNotPut, IsNotWritten, IsPending, accepted};
-ghost use Rattle.ob_covered.specs.Cover.{Tells, TakesSparingly};
+ghost use Rattle.ob_covered.specs.Budgeted.{IsPending, WritesWithin, accepted};
+ghost use Rattle.ob_covered.specs.Inside.{IsNotPut};
 
 use super::Budgeted;
 use crate::fault::{NotWritten, Told, WriteFault};
@@ -15,7 +15,7 @@ use ob_types::{Message, pending_size};
 
 /// Writes to a connection that the budget let through.
 #[inline(always)]
-pub(super) fn put(connection: &mut Connection, message: Message) -> Result<Written, NotWritten>
+fn put(connection: &mut Connection, message: Message) -> Result<Written, NotWritten>
     ensures written { IfOk result (λ written. Obeys connection.old (Write message) written_reply (accepted written) connection.new) }
     ensures grown { OnOk result ((before : ℕ) → IsPending connection.old before →
         IsPending connection.new (before + counted_bytes connection.old.unsent.settings.estimate message)) }
@@ -44,14 +44,8 @@ impl Budgeted {
     /// lacks. Each refusal leaves the connection as it was, and the message comes back.
     #[inline(always)]
     pub fn write(&mut self, message: Message) -> Told<Result<Written, NotWritten>>
-        ensures written { IfOk result.answer (λ written.
-            Obeys self.old.connection (Write message) written_reply (accepted written) self.new.connection) }
-        ensures room { OnOk result.answer (room_in self.new.connection ≡ room_for_one_more self.old.connection.unsent) }
-        ensures refused { IfErr result.answer (λ not. IsNotWritten self.old message not.why self.new) }
+        ensures writes { WritesWithin (λ not. not.why) message self.old result self.new }
         ensures returned { IfErr result.answer (λ not. not.message ≡ message) }
-        ensures told { Tells self.old.cover result.pressure self.new.cover }
-        ensures sparing { (now : ℕ) → IsPending self.old.connection now → TakesSparingly
-            (now + counted_bytes self.old.connection.unsent.settings.estimate message) self.old.cover self.new.cover }
     {
         self.connection.stands_for_some_commands();
         let Ok(size) = pending_size(&message, self.connection.estimate()) else {
@@ -71,15 +65,9 @@ impl Budgeted {
     /// Writes a message that the seat does not hold, or that no seat holds.
     #[cold]
     #[inline(never)]
-    pub(super) fn write_beyond(&mut self, message: Message) -> Told<Result<Written, NotWritten>>
-        ensures written { IfOk result.answer (λ written.
-            Obeys self.old.connection (Write message) written_reply (accepted written) self.new.connection) }
-        ensures room { OnOk result.answer (room_in self.new.connection ≡ room_for_one_more self.old.connection.unsent) }
-        ensures refused { IfErr result.answer (λ not. IsNotWritten self.old message not.why self.new) }
+    fn write_beyond(&mut self, message: Message) -> Told<Result<Written, NotWritten>>
+        ensures writes { WritesWithin (λ not. not.why) message self.old result self.new }
         ensures returned { IfErr result.answer (λ not. not.message ≡ message) }
-        ensures told { Tells self.old.cover result.pressure self.new.cover }
-        ensures sparing { (now : ℕ) → IsPending self.old.connection now → TakesSparingly
-            (now + counted_bytes self.old.connection.unsent.settings.estimate message) self.old.cover self.new.cover }
     {
         self.connection.stands_for_some_commands();
         if self.connection.is_closed() {

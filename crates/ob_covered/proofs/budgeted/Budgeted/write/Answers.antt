@@ -1,12 +1,9 @@
-use Rattle.std.proofs.Common.{◌≡◌, ◌+◌, ap, subst, ◌∙◌, arith}
-use Rattle.std.specs.Prelude.{IfOk, IfErr}
+use Rattle.std.proofs.Common.{◌≡◌, ap, subst, ◌∙◌, arith}
+use Rattle.std.specs.Prelude.{None}
 use Rattle.ob_types.specs.PendingSize.{counted_bytes}
-use Rattle.ob_types.specs.declared.command.Command.TheVariants.{Write}
-use Rattle.ob_connection.specs.Obeying.{Obeys, written_reply}
 use Rattle.ob_covered.proofs.Pending.{shown}
-use Rattle.ob_covered.proofs.Written.{put_within, refused_as, size_is, takes_nothing}
-use Rattle.ob_covered.specs.Budgeted.{BudgetedValue, IsNotWritten, accepted}
-use Rattle.ob_covered.specs.Cover.{TakesSparingly}
+use Rattle.ob_covered.proofs.Written.{put_within, refused_as, size_is, takes_nothing, tells_nothing}
+use Rattle.ob_covered.specs.Budgeted.{BudgetedValue, WritesWithin}
 use Rattle.ob_covered.proofs.budgeted.Budgeted.write.Goals as goal
 
 pub invariant_of-self : goal.invariant_of-self
@@ -20,19 +17,17 @@ invariant_of-self c =
     c.put-answer.ensures.grown c.put-answer.ensures.refused (shown old c.look-pending.result c.look-pending.ensures)
     (omega (arith, c.if-from-held.false, c.held.ensures, c.from.ensures, c.from-2.ensures, size))
 
-pub returns-clause-written : goal.returns-clause-written
-returns-clause-written c =
-    subst (λ v. IfOk c.put-answer.result (λ written. Obeys v.connection (Write c.args.message) written_reply (accepted written)
-    c.put-answer.new.connection)) c.self.view_is c.put-answer.ensures.written
-
-pub returns-clause-refused : goal.returns-clause-refused
-returns-clause-refused c =
-    let old : BudgetedValue = record { connection = c.self.inside.connection; cover = c.self.inside.cover } in
-    let new : BudgetedValue = record { connection = c.put-answer.new.connection; cover = c.self.inside.cover } in
-    subst (λ v. IfErr c.put-answer.result (λ not. IsNotWritten v c.args.message not.why new)) c.self.view_is
-    (refused_as (λ not. not.why) old new c.args.message c.put-answer.result c.put-answer.ensures.refused)
-
-pub returns-clause-sparing : goal.returns-clause-sparing
-returns-clause-sparing c now is =
-    subst (λ v. TakesSparingly (now + counted_bytes v.connection.unsent.settings.estimate c.args.message) v.cover c.self.inside.cover)
-    c.self.view_is (takes_nothing _ c.self.inside.cover)
+pub returns-clause-writes : goal.returns-clause-writes
+returns-clause-writes c =
+    let cover = c.self.inside.cover in
+    let old : BudgetedValue = record { connection = c.self.inside.connection; cover = cover } in
+    let new : BudgetedValue = record { connection = c.put-answer.new.connection; cover = cover } in
+    subst (λ v. WritesWithin (λ not. not.why) c.args.message v (record { answer = c.put-answer.result; pressure = None }) new)
+    c.self.view_is
+    (record {
+      written = c.put-answer.ensures.written;
+      room = c.put-answer.ensures.room;
+      refused = refused_as (λ not. not.why) old new c.args.message c.put-answer.result c.put-answer.ensures.refused;
+      tells = tells_nothing cover;
+      sparing = λ now is. takes_nothing _ cover;
+    })

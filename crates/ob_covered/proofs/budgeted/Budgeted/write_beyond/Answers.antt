@@ -1,9 +1,8 @@
-use Rattle.std.proofs.Common.{◌≡◌, ◌+◌, ap, sym, subst, ◌∙◌, arith}
+use Rattle.std.proofs.Common.{◌≡◌, ap, subst, ◌∙◌, arith}
 use Rattle.ob_types.specs.PendingSize.{counted_bytes}
 use Rattle.ob_covered.proofs.Pending.{shown}
-use Rattle.ob_covered.specs.Budgeted.{IsPending}
-use Rattle.ob_covered.specs.Cover.{TakesSparingly}
-use Rattle.ob_covered.proofs.Written.{put_within, size_is, spares}
+use Rattle.ob_covered.specs.Budgeted.{BudgetedValue, WritesWithin}
+use Rattle.ob_covered.proofs.Written.{put_within, refused_as, size_is, spares}
 use Rattle.ob_covered.proofs.budgeted.Budgeted.write_beyond.Goals as goal
 
 pub invariant_of-self-in-Ok-take : goal.invariant_of-self-in-Ok-take
@@ -18,16 +17,24 @@ invariant_of-self-in-Ok-take c =
     (shown old c.look-pending.result c.look-pending.ensures)
     (omega (arith, c.in-Ok-take.ensures.covered, c.from.ensures, c.from-2.ensures, size))
 
-pub returns-in-Ok-take-clause-sparing : goal.returns-in-Ok-take-clause-sparing
-returns-in-Ok-take-clause-sparing c now is =
-    let old = c.self.inside.connection in
-    let here : IsPending old now = subst (λ v. IsPending v.connection now) (sym c.self.view_is) is in
-    let size : c.in-Ok.size ≡ counted_bytes old.unsent.settings.estimate c.args.message =
+pub returns-in-Ok-take-clause-writes : goal.returns-in-Ok-take-clause-writes
+returns-in-Ok-take-clause-writes c =
+    let old : BudgetedValue = record { connection = c.self.inside.connection; cover = c.self.inside.cover } in
+    let new : BudgetedValue = record { connection = c.put-answer-in-Ok-take.new.connection; cover = c.take.new.self } in
+    let size : c.in-Ok.size ≡ counted_bytes old.connection.unsent.settings.estimate c.args.message =
     size_is c.estimate.result c.args.message c.in-Ok.size c.in-Ok.ensures
     ∙ ap (λ estimate. counted_bytes estimate c.args.message) c.estimate.ensures in
-    subst (λ v. TakesSparingly (now + counted_bytes v.connection.unsent.settings.estimate c.args.message) v.cover c.take.new.self)
+    let put = c.put-answer-in-Ok-take in
+    subst (λ v. WritesWithin (λ not. not.why) c.args.message v (record { answer = put.result; pressure = c.in-Ok-take.pressure }) new)
     c.self.view_is
-    (spares old now c.look-pending.result.total (counted_bytes old.unsent.settings.estimate c.args.message) _
-    c.self.inside.cover c.take.new.self c.stands_for_some_commands.ensures here
-    (shown old c.look-pending.result c.look-pending.ensures)
-    (omega (arith, c.from.ensures, c.from-2.ensures, size)) c.take.ensures.sparing)
+    (record {
+      written = put.ensures.written;
+      room = put.ensures.room;
+      refused = refused_as (λ not. not.why) old new c.args.message put.result put.ensures.refused;
+      tells = c.in-Ok-take.ensures.told;
+      sparing = λ now is.
+          spares old.connection now c.look-pending.result.total (counted_bytes old.connection.unsent.settings.estimate c.args.message) _
+          old.cover c.take.new.self c.stands_for_some_commands.ensures is
+          (shown old.connection c.look-pending.result c.look-pending.ensures)
+          (omega (arith, c.from.ensures, c.from-2.ensures, size)) c.take.ensures.sparing;
+    })

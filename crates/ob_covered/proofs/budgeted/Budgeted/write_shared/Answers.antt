@@ -1,12 +1,30 @@
-use Rattle.std.proofs.Common.{arith}
+use Rattle.std.proofs.Common.{subst, sym}
 use Rattle.ob_types.specs.declared.message.Message.TheVariants.{Block}
-use Rattle.ob_covered.proofs.Written.{put_within}
+use Rattle.ob_connection.specs.Connected.{StandsForSome}
+use Rattle.ob_covered.proofs.Written.{block_within, covers_by, writes_block}
+use Rattle.ob_covered.specs.Budgeted.{BudgetedValue, WritesWithin}
+use Rattle.ob_covered.specs.Inside.{Covers}
 use Rattle.ob_covered.proofs.budgeted.Budgeted.write_shared.Goals as goal
 
 pub invariant_of-self : goal.invariant_of-self
 invariant_of-self c =
-    let holds = c.holds_block.ensures c.if-not-holds_block.false in
-    put_within (λ why. why) c.self.inside.connection c.put_shared-answer.new.connection (Block c.args.block.now)
-    c.put_shared-answer.result holds.now c.self.inside.cover.seat.account.held c.self.inside.cover.seat.account.held
-    c.self.invariant (omega arith) c.put_shared-answer.ensures.grown c.put_shared-answer.ensures.refused holds.is_pending
-    (omega (arith, c.len.ensures.value, holds.fits))
+    let message = Block c.args.block.now in
+    let between : BudgetedValue = record { connection = c.self-2.inside.connection; cover = c.self-2.inside.cover } in
+    block_within message c.args.self.now between c.in-Ok.pressure c.write_shared-answer.result c.write_shared-answer.new.self
+    c.look-look.result (subst (λ v. StandsForSome v.connection) c.self.view_is c.stands_for_some_commands.ensures)
+    (covers_by message c.args.self.now between c.cover_block.new.self c.in-Ok.pressure c.cover_block.result c.in-Ok.is
+    c.self-2.view_is (subst (λ bytes. Covers (Block bytes) c.args.self.now c.cover_block.result c.cover_block.new.self) c.as_slice.ensures
+    c.cover_block.ensures))
+    c.write_shared-answer.ensures.obeys c.look-look.ensures c.self-2.invariant
+
+pub returns-clause-writes : goal.returns-clause-writes
+returns-clause-writes c =
+    let message = Block c.args.block.now in
+    let between : BudgetedValue = record { connection = c.self-2.inside.connection; cover = c.self-2.inside.cover } in
+    let new : BudgetedValue = record { connection = c.write_shared-answer.new.self; cover = between.cover } in
+    subst (λ told. WritesWithin (λ why. why) message c.args.self.now told new) (sym c.let_through.ensures)
+    (writes_block message c.args.self.now between c.in-Ok.pressure c.write_shared-answer.result c.write_shared-answer.new.self
+    (covers_by message c.args.self.now between c.cover_block.new.self c.in-Ok.pressure c.cover_block.result c.in-Ok.is
+    c.self-2.view_is (subst (λ bytes. Covers (Block bytes) c.args.self.now c.cover_block.result c.cover_block.new.self) c.as_slice.ensures
+    c.cover_block.ensures))
+    c.write_shared-answer.ensures.obeys c.write_shared-answer.ensures.room)
