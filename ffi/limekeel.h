@@ -65,7 +65,7 @@ extern "C" {
 
 /* A number of the structs, functions and numbers of this header. limekeel_open says LIMEKEEL_OTHER_VERSION to an archive of
  * another. Before 1.0 each version may have another. */
-#define LIMEKEEL_EDGE 1894342440u
+#define LIMEKEEL_EDGE 524525967u
 
 /* What may tell a change of writability is not to be dropped. */
 #if (defined(__cplusplus) && __cplusplus >= 201703L) || (defined(__STDC_VERSION__) && __STDC_VERSION__ >= 202311L)
@@ -399,6 +399,13 @@ struct limekeel_budget_told {
     uint32_t status;
     bool is_pressed; /* whether pressure stands */
     uint64_t total;  /* the bytes that all its connections hold */
+};
+
+/* What limekeel_shared_held returns. */
+struct limekeel_seat_told {
+    uint32_t status;
+    bool is_within; /* whether the connection was opened within a budget; else `held` is 0 */
+    uint64_t held;  /* the bytes that it holds of the budget: at least those that are pending */
 };
 
 /* What the calls of a connection that a budget covers return: the reply of a connection, and a limekeel_pressure, which is told
@@ -890,6 +897,10 @@ LIMEKEEL_TOLD struct limekeel_pressed_done limekeel_shared_settle(struct limekee
 LIMEKEEL_TOLD struct limekeel_pressed_done limekeel_transport_settle(struct limekeel_transport *transport);
 LIMEKEEL_TOLD struct limekeel_pressed_done limekeel_shared_rest(struct limekeel_shared *shared);
 LIMEKEEL_TOLD struct limekeel_pressed_done limekeel_transport_rest(struct limekeel_transport *transport);
+
+/* The bytes that the connection holds of its budget, as `held` of limekeel_budgeted_state, if the lock is free: what is pending,
+ * and what is spare, which a rest gives back. */
+struct limekeel_seat_told limekeel_shared_held(struct limekeel_shared *shared);
 
 /* What is pending now, as limekeel_look, and what has become of a promise, as limekeel_promise, if the lock is free. */
 struct limekeel_look_told limekeel_shared_look(struct limekeel_shared *shared);

@@ -341,6 +341,13 @@ static bool holds(struct limekeel_budget *budget, uint64_t total)
     return told.status == LIMEKEEL_OK && told.total == total;
 }
 
+/* Whether this connection does. */
+static bool has(struct limekeel_shared *shared, uint64_t held)
+{
+    struct limekeel_seat_told told = limekeel_shared_held(shared);
+    return told.status == LIMEKEEL_OK && told.is_within && told.held == held;
+}
+
 /* A connection with two handles within a budget that has no room beyond ten messages of 100 bytes. */
 static void shares_a_connection(void)
 {
@@ -350,18 +357,20 @@ static void shares_a_connection(void)
     struct limekeel_block block = LIMEKEEL_BLOCK;
     expect("nothing is open", was(limekeel_shared_write_within(&shared, "four", 4), LIMEKEEL_NOT_OPEN, 0) &&
                                   gave(limekeel_shared_rest(&shared), LIMEKEEL_NOT_OPEN, 0) &&
-                                  gave(limekeel_transport_settle(&transport), LIMEKEEL_NOT_OPEN, 0));
+                                  gave(limekeel_transport_settle(&transport), LIMEKEEL_NOT_OPEN, 0) &&
+                                  limekeel_shared_held(&shared).status == LIMEKEEL_NOT_OPEN);
     expect("it opens", limekeel_shared_open_within(&transport, 5000, 9000, OVERHEAD, 8, &budget) == LIMEKEEL_OK);
     expect("but once", limekeel_shared_open_within(&transport, 5000, 9000, OVERHEAD, 8, &budget) == LIMEKEEL_ALREADY_OPEN);
     expect("a handle", limekeel_transport_another(&transport, &shared) == LIMEKEEL_OK);
     expect("a block", limekeel_block_new(&block, "four", 4) == LIMEKEEL_OK);
     expect("no other call takes of the budget",
-           limekeel_shared_write(&shared, "four", 4).status == LIMEKEEL_OVER_BUDGET && holds(&budget, 0));
+           limekeel_shared_write(&shared, "four", 4).status == LIMEKEEL_OVER_BUDGET && holds(&budget, 0) && has(&shared, 0));
     expect("bytes", was(limekeel_shared_write_within(&shared, "four", 4), LIMEKEEL_OK, LIMEKEEL_PRESSURE_UNCHANGED));
     expect("a block's", was(limekeel_shared_write_block_within(&shared, &block), LIMEKEEL_OK, 0));
     expect("lent ones", was(limekeel_shared_write_lent_within(&shared, "four", 4), LIMEKEEL_OK, 0));
     expect("a region", was(limekeel_shared_write_region_within(&shared, 5), LIMEKEEL_OK, 0));
     expect("any other", was(limekeel_shared_write_other_within(&shared, 7), LIMEKEEL_OK, 0) && holds(&budget, 500));
+    expect("which it holds", has(&shared, 500));
     struct limekeel_pressed_written_and_flushed both = limekeel_shared_write_and_flush_block_within(&shared, &block);
     expect("with a flush", both.done.status == LIMEKEEL_OK && both.done.count == 6 && both.pressure == 0);
     both = limekeel_shared_write_and_flush_within(&shared, "four hundred more", 17);
@@ -369,7 +378,7 @@ static void shares_a_connection(void)
     expect("pressure begins", was(limekeel_shared_write_within(&shared, "four", 4), LIMEKEEL_OK, LIMEKEEL_PRESSURE_BEGAN));
     expect("no room", was(limekeel_shared_write_within(&shared, (uint8_t[200]){0}, 200), LIMEKEEL_OVER_BUDGET, 0));
     expect("removals keep the seat", limekeel_transport_fail_flushed(&transport, 1, true).status == LIMEKEEL_OK &&
-                                         holds(&budget, 813));
+                                         holds(&budget, 813) && has(&shared, 813));
     expect("it settles", gave(limekeel_transport_settle(&transport), LIMEKEEL_OK, LIMEKEEL_PRESSURE_ENDED) && holds(&budget, 100));
     expect("once", gave(limekeel_shared_settle(&shared), LIMEKEEL_OK, 0) && gave(limekeel_shared_rest(&shared), LIMEKEEL_OK, 0) &&
                        gave(limekeel_transport_rest(&transport), LIMEKEEL_OK, 0) && holds(&budget, 100));

@@ -126,6 +126,8 @@ static void statuses(void)
     struct limekeel_look_told look = limekeel_shared_look(&one);
     expect("look", look.status == LIMEKEEL_OK && look.total == 203 && look.word == 1 && look.size == 0);
     expect("before it is writable", look.before_unwritable == 0 && look.before_writable == 104 && look.current_progress == 0);
+    struct limekeel_seat_told seat = limekeel_shared_held(&two);
+    expect("within no budget", seat.status == LIMEKEEL_OK && !seat.is_within && seat.held == 0);
     expect("not writable", !limekeel_shared_is_writable(&two).holds);
     expect("cancel", limekeel_shared_cancel(&one, 0).in_time && !limekeel_shared_cancel(&two, 0).in_time);
     expect("no promise", limekeel_shared_cancel(&one, 2).status == LIMEKEEL_UNKNOWN_PROMISE);

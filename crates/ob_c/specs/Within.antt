@@ -1,5 +1,5 @@
 -- What an export promises of a shared connection within a budget.
-use Rattle.std.specs.Prelude.{◌≡◌, ℕ, ⊤, List, [], ◌∷◌, Option, Some, None, Result, Ok, Err}
+use Rattle.std.specs.Prelude.{◌≡◌, ℕ, ⊤, true, false, List, [], ◌∷◌, Option, Some, None, Result, Ok, Err}
 use Rattle.ob_types.specs.declared.command.Command.{Command}
 use Rattle.ob_types.specs.declared.command.Command.TheVariants.{Flush, Write}
 use Rattle.ob_types.specs.declared.message.Message.{Message}
@@ -25,6 +25,7 @@ use Rattle.ob_c.specs.Replies.{written_and_flushed_in_c}
 use Rattle.ob_c.specs.declared.pressed.PressedDone.{PressedDone}
 use Rattle.ob_c.specs.declared.pressed.PressedWritten.{PressedWritten}
 use Rattle.ob_c.specs.declared.pressed.PressedWrittenAndFlushed.{PressedWrittenAndFlushed}
+use Rattle.ob_c.specs.declared.tries_within.SeatTold.{SeatTold}
 
 -- a call that was made, or why the budget did not cover it: what it was to write is let go
 abbrev pub without_act : {A B : Type 0} → Result A (OverBudget B) → Result A RaiseFault
@@ -87,6 +88,12 @@ within_and_flushed_in_c told = pressed_written_and_flushed_in_c (within_told tol
 abbrev pub gave_in_c : Result (Option Pressure) ℕ → PressedDone
 gave_in_c (Err status) = record { status = status; pressure = 0 }
 gave_in_c (Ok pressure) = record { status = done; pressure = pressure_number pressure }
+
+-- what C is told of the bytes that a seat holds, if the connection is within a budget
+abbrev pub seat_told_in_c : Result (Option ℕ) ℕ → SeatTold
+seat_told_in_c (Err status) = record { status = status; is_within = false; held = 0 }
+seat_told_in_c (Ok None) = record { status = done; is_within = false; held = 0 }
+seat_told_in_c (Ok (Some held)) = record { status = done; is_within = true; held = held }
 
 -- a connection with these settings is opened under a cover that was cut off, as its first handle, if one was and memory
 -- does not run out

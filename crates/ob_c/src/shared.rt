@@ -36,7 +36,7 @@ unsafe impl Send for Shared {}
 impl Shared {
     ghost use Rattle.ob_shared_connection.specs.Calls.{IsCall};
     ghost use Rattle.ob_shared_connection.specs.Removals.{MayGive};
-    ghost use Rattle.ob_shared_connection.specs.Covering.{Settles};
+    ghost use Rattle.ob_shared_connection.specs.Covering.{Settles, ShowsHeld};
     ghost use Rattle.ob_c.specs.Reaching.{LendsShared};
     ghost use Rattle.ob_c.specs.Sharing.{Tries, TriesTo, TriesToLook};
     ghost use Rattle.ob_c.specs.Within.{DoesWithin};
@@ -162,6 +162,22 @@ impl Shared {
             Some((pressure, wakes)) => {
                 wake_nobody(wakes);
                 Ok(pressure)
+            }
+        }
+    }
+
+    /// The bytes that the seat holds, if there is a handle and the lock is free.
+    pub(crate) fn held(&mut self) -> Result<Option<u64>, u32>
+        ensures { TriesTo self.old.value ShowsHeld (λ told. told) result self.new.value }
+    {
+        if !self.is_open() {
+            return Err(NOT_OPEN);
+        }
+        match self.reach().try_held() {
+            None => Err(BUSY),
+            Some((held, wakes)) => {
+                wake_nobody(wakes);
+                Ok(held)
             }
         }
     }

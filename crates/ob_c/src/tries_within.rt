@@ -3,11 +3,11 @@
 ghost use Rattle.std.specs.Prelude.{◌≡◌, ◌≤◌, IfErr, IfOk, None, nat_eq};
 ghost use Rattle.ob_types.specs.Limits.{greatest_overhead, greatest_unknown};
 ghost use Rattle.ob_types.specs.declared.message.Message.TheVariants.{Block as AsBlock, Region as AsRegion, Other as AsOther};
-ghost use Rattle.ob_shared_connection.specs.Covering.{Settles};
+ghost use Rattle.ob_shared_connection.specs.Covering.{Settles, ShowsHeld};
 ghost use Rattle.ob_c.specs.Opening.{settings_for, settings_of};
 ghost use Rattle.ob_c.specs.Sharing.{TriesTo, TriesToWithBlock, TriesToWithMemory};
 ghost use Rattle.ob_c.specs.Within.{KeepsSharedWithin, OpensSharedWithin, PutsAndFlushesWithin, PutsWithin};
-ghost use Rattle.ob_c.specs.Within.{gave_in_c, within_and_flushed_in_c, within_in_c};
+ghost use Rattle.ob_c.specs.Within.{gave_in_c, seat_told_in_c, within_and_flushed_in_c, within_in_c};
 
 use crate::block::Block;
 use crate::budget::Budget;
@@ -242,4 +242,51 @@ pub extern "C" fn limekeel_transport_rest(transport: &mut Transport) -> PressedD
     ensures { TriesTo transport.old.value (Settles 0) gave_in_c result transport.new.value }
 {
     PressedDone::gave(transport.rest())
+}
+
+/// What is told of the seat of a shared connection.
+#[repr(C)]
+#[derive(Clone, Copy)]
+pub struct SeatTold {
+    /// 0, or why there is nothing to see.
+    pub status: u32,
+    /// Whether the connection was opened within a budget.
+    pub is_within: bool,
+    /// The bytes that its seat holds: at least those that are pending.
+    pub held: u64,
+}
+
+impl SeatTold {
+    /// What C gets for this.
+    fn of(told: Result<Option<u64>, u32>) -> SeatTold
+        ensures { result ≡ seat_told_in_c told }
+    {
+        match told {
+            Err(status) => SeatTold {
+                status,
+                is_within: false,
+                held: 0,
+            },
+            Ok(None) => SeatTold {
+                status: DONE,
+                is_within: false,
+                held: 0,
+            },
+            Ok(Some(held)) => SeatTold {
+                status: DONE,
+                is_within: true,
+                held,
+            },
+        }
+    }
+}
+
+/// The bytes that the seat of the connection holds, under the lock.
+///
+/// The status is 13 if there is no handle, and 18 if another call has the lock.
+#[unsafe(no_mangle)]
+pub extern "C" fn limekeel_shared_held(shared: &mut Shared) -> SeatTold
+    ensures { TriesTo shared.old.value ShowsHeld seat_told_in_c result shared.new.value }
+{
+    SeatTold::of(shared.held())
 }

@@ -5,7 +5,7 @@ use Rattle.ob_connection.specs.Connected.{Connected}
 use Rattle.ob_budget.specs.declared.pressure.Pressure.{Pressure}
 use Rattle.ob_covered.specs.declared.fault.Told.{Told}
 use Rattle.ob_shared_connection.specs.Calls.{IsCall}
-use Rattle.ob_shared_connection.specs.Covers.{AcceptsFirst, HoldsFor, LacksRoom, SparesAtMost, TakesFor, TellsIf, bytes_written}
+use Rattle.ob_shared_connection.specs.Covers.{AcceptsFirst, HoldsFor, LacksRoom, SparesAtMost, TakesFor, TellsIf, bytes_written, held_by}
 use Rattle.ob_shared_connection.specs.Values.{Held, recovered}
 use Rattle.ob_shared_connection.specs.declared.over.OverBudget.{OverBudget}
 
@@ -56,3 +56,8 @@ pub record Settles (quanta : ℕ) (pressure : Option Pressure) (old new : Held) 
   pub same : IsRecovered old new
   pub tells : TellsIf old.cover pressure new.cover
   pub spares : SparesAtMost quanta new.connected old.cover new.cover
+
+-- the bytes are told that the seat of the cover holds, if there is one, and nothing changed
+pub record ShowsHeld (held : Option ℕ) (old new : Held) : Type 0 where
+  pub held_is : held ≡ held_by old.cover
+  pub same : new ≡ old

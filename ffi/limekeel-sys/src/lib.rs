@@ -23,7 +23,7 @@ mod heap;
 pub const PIECES: usize = 1024;
 
 /// A number of these declarations, which `limekeel_open_for` compares with the archive's.
-pub const EDGE: u32 = 1894342440;
+pub const EDGE: u32 = 524525967;
 
 macro_rules! numbers {
     ($($name:ident = $number:literal),* $(,)?) => {
@@ -180,6 +180,8 @@ plain! {
     ToldChanged 12 { changed at 0: Changed, finished at 8: bool }
     /// `struct limekeel_budget_told`.
     BudgetTold 16 { status at 0: u32, is_pressed at 4: bool, total at 8: u64 }
+    /// `struct limekeel_seat_told`.
+    SeatTold 16 { status at 0: u32, is_within at 4: bool, held at 8: u64 }
     /// `struct limekeel_pressed_done`.
     PressedDone 8 { status at 0: u32, pressure at 4: u32 }
     /// `struct limekeel_pressed_written`.
@@ -422,6 +424,7 @@ unsafe extern "C" {
     pub fn limekeel_transport_settle(transport: *mut Transport) -> PressedDone;
     pub fn limekeel_shared_rest(shared: *mut Shared) -> PressedDone;
     pub fn limekeel_transport_rest(transport: *mut Transport) -> PressedDone;
+    pub fn limekeel_shared_held(shared: *mut Shared) -> SeatTold;
     pub fn limekeel_shared_flush(shared: *mut Shared) -> Flushed;
     pub fn limekeel_shared_cancel(shared: *mut Shared, id: u64) -> Cancelled;
     pub fn limekeel_shared_close(shared: *mut Shared, cause: u32) -> Taken;

@@ -102,6 +102,7 @@ impl Sharer {
     tries! {
         settle() -> sys::PressedDone = limekeel_shared_settle;
         rest() -> sys::PressedDone = limekeel_shared_rest;
+        held() -> sys::SeatTold = limekeel_shared_held;
     }
 
     pub(crate) fn write_region_within(&self, length: u64) -> Option<sys::PressedWritten> {

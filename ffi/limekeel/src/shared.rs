@@ -358,6 +358,15 @@ impl SharedConnection {
         self.common.rest(&self.sharer);
     }
 
+    /// The bytes that it holds of its budget: at least those that are pending, as [`crate::BudgetedConnection::held`]. None
+    /// if it was opened within no budget.
+    #[must_use]
+    pub fn held(&self) -> Option<u64> {
+        let told = self.common.line.had(|| self.sharer.held());
+        debug_assert!(done(told.status).is_ok());
+        told.is_within.then_some(told.held)
+    }
+
     /// What has become of a promise, or nothing if no write was accepted under it.
     #[must_use]
     pub fn promise(&self, id: u64) -> Option<Promise> {

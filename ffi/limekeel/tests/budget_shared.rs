@@ -66,12 +66,20 @@ fn an_idle_connection_gives_back_its_quantum() {
     let budget = budget(300);
     let (connection, mut transport) = within(&budget);
     let _ = connection.write_and_flush(b"four").expect("there is room");
-    assert_eq!(budget.look().total, 300);
+    assert_eq!((budget.look().total, connection.held()), (300, Some(300)));
     connection.rest();
-    assert_eq!(budget.look().total, 100);
+    assert_eq!((budget.look().total, connection.held()), (100, Some(100)));
     assert!(transport.remove().expect("it is open").any);
     transport.rest();
     assert_eq!(budget.look().total, 0);
+}
+
+#[test]
+fn a_connection_within_no_budget_holds_nothing_of_one() {
+    let (connection, _transport) =
+        SharedConnection::open(Marks { low: 5000, high: 9000 }, ESTIMATE).expect("there is memory");
+    let _ = connection.write(b"four").expect("there is room");
+    assert_eq!(connection.held(), None);
 }
 
 #[test]

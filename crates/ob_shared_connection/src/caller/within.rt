@@ -3,7 +3,7 @@
 ghost use Rattle.std.specs.Prelude.{◌≡◌, ◌<◌, IfErr, IfOk, IfSome, None, OnErr, OnOk};
 ghost use Rattle.ob_shared_connection.specs.Callers.{IsFree, IsHolder, caller_handle, caller_held};
 ghost use Rattle.ob_shared_connection.specs.Calls.{UnderLock};
-ghost use Rattle.ob_shared_connection.specs.Covering.{ActsWithin, IsRecovered, Settles};
+ghost use Rattle.ob_shared_connection.specs.Covering.{ActsWithin, IsRecovered, Settles, ShowsHeld};
 ghost use Rattle.ob_shared_connection.specs.Covers.{Adds, HoldsFor, LacksRoom, TakesFor, TellsIf};
 ghost use Rattle.ob_shared_connection.specs.Removals.{MayGive};
 
@@ -67,6 +67,17 @@ impl Caller {
         let shared = &self.shared;
         let carried = self.seat.slot_mut(&shared.table.shared, 0);
         carried.rest()
+    }
+
+    /// The bytes that it holds, if there is one.
+    pub fn held(&mut self) -> Option<u64>
+        requires { IsHolder self.old }
+        ensures holds { IsHolder self.new }
+        ensures shows { ShowsHeld result (caller_held self.old) (caller_held self.new) }
+    {
+        let shared = &self.shared;
+        let carried = self.seat.slot_mut(&shared.table.shared, 0);
+        carried.room()
     }
 
     /// Does something to the connection under the lock, once its seat holds what that adds.
@@ -174,6 +185,36 @@ impl Caller {
         let told = self.rest();
         self.unlock();
         told
+    }
+
+    /// The bytes that the seat holds, seen under the lock.
+    pub fn held_under_lock<R: Wait>(&mut self, rt: &R) -> Option<u64>
+        requires { IsFree self.old }
+        ensures free { IsFree self.new }
+        ensures sends { (caller_handle self.new).sends ≡ (caller_handle self.old).sends }
+        ensures under { UnderLock (caller_handle self.old) (ShowsHeld result) (caller_handle self.new) }
+    {
+        self.lock(rt, Patience::Short);
+        let held = self.held();
+        self.unlock();
+        held
+    }
+
+    /// The same if the lock is free, and tells whom to wake.
+    pub fn try_held_under_lock(&mut self) -> Option<(Option<u64>, Wakes)>
+        requires { IsFree self.old }
+        ensures free { IsFree self.new }
+        ensures sends { (caller_handle self.new).sends ≡ (caller_handle self.old).sends }
+        ensures under { IfSome result (λ told. UnderLock (caller_handle self.old) (ShowsHeld told.0)
+            (caller_handle self.new)) }
+        ensures busy { result ≡ None → caller_handle self.new ≡ caller_handle self.old }
+    {
+        if !self.try_lock() {
+            return None;
+        }
+        let held = self.held();
+        let wakes = self.leave();
+        Some((held, wakes))
     }
 
     /// Gives back what is spare if the lock is free, and tells whom to wake.

@@ -1,5 +1,5 @@
 //! The calls of a connection within a budget, under the lock.
-ghost use Rattle.ob_shared_connection.specs.Covering.{ActsWithin, Settles};
+ghost use Rattle.ob_shared_connection.specs.Covering.{ActsWithin, Settles, ShowsHeld};
 ghost use Rattle.ob_shared_connection.specs.Removals.{MayGive};
 
 use crate::act::Act;
@@ -32,5 +32,12 @@ impl Guard {
         ensures { Settles 0 result self.old self.new }
     {
         self.caller.rest()
+    }
+
+    /// The bytes that the seat holds, as `Handle::held`.
+    pub fn held(&mut self) -> Option<u64>
+        ensures { ShowsHeld result self.old self.new }
+    {
+        self.caller.held()
     }
 }

@@ -1,7 +1,7 @@
 //! The calls of a connection within a budget.
 ghost use Rattle.std.specs.Prelude.{◌≡◌, IfErr, IfOk, IfSome, IsOk, None, OnErr};
 ghost use Rattle.ob_shared_connection.specs.Calls.{UnderLock};
-ghost use Rattle.ob_shared_connection.specs.Covering.{ActsWithin, Settles};
+ghost use Rattle.ob_shared_connection.specs.Covering.{ActsWithin, Settles, ShowsHeld};
 ghost use Rattle.ob_shared_connection.specs.Removals.{MayGive};
 
 use crate::act::Act;
@@ -69,6 +69,24 @@ impl Handle {
     {
         self.caller.rest_under_lock(rt)
     }
+
+    /// The bytes that the seat of a connection within a budget holds: at least those that are pending. None if it was opened
+    /// within no budget.
+    pub fn held<R: Wait>(&mut self, rt: &R) -> Option<u64>
+        ensures { UnderLock self.old (ShowsHeld result) self.new }
+    {
+        self.caller.held_under_lock(rt)
+    }
+
+    /// The bytes that the seat holds, as `held`, if the lock is free: None if it is taken. It waits for nobody, and wakes
+    /// nobody: it tells whom to wake.
+    pub fn try_held(&mut self) -> Option<(Option<u64>, Wakes)>
+        ensures under { IfSome result (λ told. UnderLock self.old (ShowsHeld told.0) self.new) }
+        ensures busy { result ≡ None → self.new ≡ self.old }
+    {
+        self.caller.try_held_under_lock()
+    }
+
     /// Gives back what is spare, as `settle`, if the lock is free: None if it is taken. It waits for nobody, and wakes
     /// nobody: it tells whom to wake.
     pub fn try_settle(&mut self) -> Option<(Option<Pressure>, Wakes)>

@@ -1,0 +1,11 @@
+use Rattle.ob_shared_connection.specs.Callers.{caller_held}
+use Rattle.ob_shared_connection.proofs.caller.Caller.held_under_lock.Goals as goal
+
+pub returns-clause-under : goal.returns-clause-under
+returns-clause-under g c = record {
+  before = caller_held c.lock.new.self;
+  after = caller_held c.held-held.new.self;
+  locks = c.lock.ensures.locks;
+  does = c.held-held.ensures.shows;
+  unlocks = c.unlock.ensures.same;
+}
