@@ -492,6 +492,9 @@ impl Drop for BudgetedConnection {
     }
 }
 
+// so one comparison tells that a call was accepted and turned nothing
+const _: () = assert!(sys::OK == 0 && sys::PRESSURE_UNCHANGED == 0);
+
 impl Waiters {
     /// How a call changed pressure. Who waits for its end is woken.
     #[inline]
@@ -509,8 +512,18 @@ impl Waiters {
         turn
     }
 
+    /// What a write returns. Most are accepted and turn nothing: one comparison tells that.
     #[inline]
     pub(crate) fn written(&self, told: sys::PressedWritten) -> Pressed<Result<Written, Refusal>> {
+        if told.written.status | told.pressure == 0 {
+            return Pressed { answer: Ok(Written::accepted(told.written)), pressure: None };
+        }
+        self.written_by(&told)
+    }
+
+    #[cold]
+    #[inline(never)]
+    fn written_by(&self, told: &sys::PressedWritten) -> Pressed<Result<Written, Refusal>> {
         Pressed { answer: Written::of(told.written), pressure: self.turned(told.pressure) }
     }
 }
