@@ -19,7 +19,7 @@ use Rattle.ob_connection.specs.declared.look.Look.{Look}
 use Rattle.ob_connection.specs.declared.replies.Written.{Written}
 use Rattle.ob_covered.specs.Budgeted.{BudgetedValue, pending, IsPending, IsWithin, IsNotWritten, WritesWithin, accepted}
 use Rattle.ob_covered.specs.Cover.{CoverValue, TakesSparingly, Tells}
-use Rattle.ob_covered.specs.Inside.{Covers, IsNotPut, let_through}
+use Rattle.ob_covered.specs.Inside.{Covers, HoldsBeside, IsNotPut, let_through}
 use Rattle.ob_covered.specs.declared.fault.WriteFault.{WriteFault}
 use Rattle.ob_covered.specs.declared.fault.WriteFault.TheVariants.{Refused, OverBudget}
 use Rattle.ob_covered.proofs.Pending.{shown, covered}
@@ -115,6 +115,20 @@ pub covers_by : (message : Message) (old between new : BudgetedValue) (pressure 
     → Covers message old (Ok pressure) between
 covers_by message old between new pressure answer is kept covers =
     subst (λ v. Covers message old (Ok pressure) v) (sym kept) (subst (λ a. Covers message old a new) is covers)
+
+-- a cover that holds the message already
+pub covers_already : (message : Message) (old : BudgetedValue)
+    → HoldsBeside old.connection (counted_bytes old.connection.unsent.settings.estimate message) old.cover.seat.account.held
+    → Covers message old (Ok None) old
+covers_already message old holds = record {
+  same = refl;
+  holds = holds;
+  told = tells_nothing old.cover;
+  untold = tt;
+  refused = tt;
+  last = tt;
+  sparing = λ now is. takes_nothing _ old.cover;
+}
 
 -- so a seat that covers the block covers the connection after it, whatever that answered
 pub block_within : (message : Message) (old between : BudgetedValue) (pressure : Option Pressure)

@@ -1,6 +1,7 @@
 //! Messages that are written as bytes.
 
-ghost use Rattle.std.specs.Prelude.{◌≡◌, ◌+◌, IfErr, IsTrue};
+ghost use Rattle.std.specs.Prelude.{◌≡◌, IfErr, IsTrue};
+ghost use Rattle.ob_types.specs.PendingSize.{counted_bytes};
 ghost use Rattle.ob_types.specs.declared.message.Message.TheVariants.{Block};
 ghost use Rattle.ob_covered.specs.Budgeted.{OverBudgetAlone, WritesWithin};
 ghost use Rattle.ob_covered.specs.Inside.{Covers, HoldsBeside, let_through};
@@ -22,13 +23,15 @@ impl Budgeted {
         ensures last { IfErr result.answer (OverBudgetAlone self.old.connection (Block bytes.now)) }
     {
         self.connection.stands_for_some_commands();
-        let pressure = match self.cover_block(bytes) {
-            Ok(pressure) => pressure,
-            Err(why) => return not_covered(why),
-        };
+        if !holds_block(&self.connection, &self.cover, bytes) {
+            return self.copy_beyond(bytes);
+        }
         let answer = self.connection.write_copy(bytes);
         let _look = self.connection.look();
-        let_through(answer, pressure)
+        Told {
+            answer: let_through(answer),
+            pressure: None,
+        }
     }
 
     /// Writes the bytes of a block, which the message shares: no byte is copied. It is refused as `write_copy` is, and not
@@ -39,31 +42,70 @@ impl Budgeted {
         ensures last { IfErr result.answer (OverBudgetAlone self.old.connection (Block block.now)) }
     {
         self.connection.stands_for_some_commands();
-        let pressure = match self.cover_block(block.as_slice()) {
-            Ok(pressure) => pressure,
-            Err(why) => return not_covered(why),
-        };
+        if !holds_block(&self.connection, &self.cover, block.as_slice()) {
+            return self.share_beyond(block);
+        }
         let answer = self.connection.write_shared(block);
         let _look = self.connection.look();
-        let_through(answer, pressure)
-    }
-
-    /// Lets the seat hold a block beside what is pending.
-    #[inline(always)]
-    fn cover_block(&mut self, block: &[u8]) -> Result<Option<Pressure>, WriteFault>
-        ensures { Covers (Block block.now) self.old result self.new }
-    {
-        self.connection.stands_for_some_commands();
-        if holds_block(&self.connection, &self.cover, block.len()) {
-            return Ok(None);
+        Told {
+            answer: let_through(answer),
+            pressure: None,
         }
-        self.cover_beyond(block)
     }
 
-    /// The same of a block that the seat does not hold, or that no seat holds.
+    /// Copies a message that the seat does not hold, or that no seat holds.
+    // most are held: in one piece with the other way, that one would save registers for this
     #[cold]
     #[inline(never)]
-    fn cover_beyond(&mut self, block: &[u8]) -> Result<Option<Pressure>, WriteFault>
+    fn copy_beyond(&mut self, bytes: &[u8]) -> Told<Result<Written, WriteFault>>
+        ensures writes { WritesWithin (λ why. why) (Block bytes.now) self.old result self.new }
+        ensures last { IfErr result.answer (OverBudgetAlone self.old.connection (Block bytes.now)) }
+    {
+        self.connection.stands_for_some_commands();
+        let pressure = match self.cover_block(bytes) {
+            Ok(pressure) => pressure,
+            Err(why) => {
+                return Told {
+                    answer: Err(why),
+                    pressure: None,
+                };
+            }
+        };
+        let written = self.connection.write_copy(bytes);
+        let _look = self.connection.look();
+        Told {
+            answer: let_through(written),
+            pressure,
+        }
+    }
+
+    /// Shares such a block.
+    #[cold]
+    #[inline(never)]
+    fn share_beyond(&mut self, block: &Bytes) -> Told<Result<Written, WriteFault>>
+        ensures writes { WritesWithin (λ why. why) (Block block.now) self.old result self.new }
+        ensures last { IfErr result.answer (OverBudgetAlone self.old.connection (Block block.now)) }
+    {
+        self.connection.stands_for_some_commands();
+        let pressure = match self.cover_block(block.as_slice()) {
+            Ok(pressure) => pressure,
+            Err(why) => {
+                return Told {
+                    answer: Err(why),
+                    pressure: None,
+                };
+            }
+        };
+        let written = self.connection.write_shared(block);
+        let _look = self.connection.look();
+        Told {
+            answer: let_through(written),
+            pressure,
+        }
+    }
+
+    /// Lets the seat hold a block beside what is pending, if the connection would take it.
+    fn cover_block(&mut self, block: &[u8]) -> Result<Option<Pressure>, WriteFault>
         ensures { Covers (Block block.now) self.old result self.new }
     {
         self.connection.stands_for_some_commands();
@@ -79,44 +121,23 @@ impl Budgeted {
     }
 }
 
-/// Whether the seat holds a block of this length beside what is pending.
+/// Whether the seat holds this block beside what is pending.
 #[inline(always)]
-fn holds_block(connection: &Connection, cover: &Cover, length: usize) -> bool
-    ensures { IsTrue result → HoldsBeside connection.now (length + connection.now.unsent.settings.estimate.overhead)
-        cover.now.seat.account.held }
+fn holds_block(connection: &Connection, cover: &Cover, block: &[u8]) -> bool
+    ensures { IsTrue result → HoldsBeside connection.now
+        (counted_bytes connection.now.unsent.settings.estimate (Block block.now)) cover.now.seat.account.held }
 {
-    let pending = u64::from(connection.look().total);
-    let counted = pending + u64::from(connection.estimate().overhead);
-    let held = cover.held();
-    counted <= held && length as u64 <= held - counted
+    let size = block.len() as u64 + u64::from(connection.estimate().overhead);
+    u64::from(connection.look().total) + size <= cover.held()
 }
 
-/// What a write returns that was not let through to the connection.
-fn not_covered(why: WriteFault) -> Told<Result<Written, WriteFault>>
-    ensures { result ≡ record { answer = Err why; pressure = None } }
-{
-    Told {
-        answer: Err(why),
-        pressure: None,
-    }
-}
-
-/// What a write returns that was let through, by what the connection answered.
+/// What the connection answered to a write that was let through, as an answer within a budget.
 #[inline(always)]
-fn let_through(
-    answer: Result<Written, Refusal>,
-    pressure: Option<Pressure>,
-) -> Told<Result<Written, WriteFault>>
-    ensures { result ≡ record { answer = let_through answer; pressure = pressure } }
+fn let_through(answer: Result<Written, Refusal>) -> Result<Written, WriteFault>
+    ensures { result ≡ let_through answer }
 {
     match answer {
-        Ok(written) => Told {
-            answer: Ok(written),
-            pressure,
-        },
-        Err(refusal) => Told {
-            answer: Err(WriteFault::Refused(refusal)),
-            pressure,
-        },
+        Ok(written) => Ok(written),
+        Err(refusal) => Err(WriteFault::Refused(refusal)),
     }
 }
