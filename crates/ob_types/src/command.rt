@@ -39,6 +39,8 @@ pub enum Command {
 
 impl Command {
     /// The same command. It fails only if the copy of its message does: for a write of a block alone.
+    // in one piece with its callers, so that the copy is not passed through memory
+    #[inline(always)]
     pub fn copy(&self) -> Result<Command, AllocError>
         ensures same { IfOk result (λ copy. copy ≡ self.now) }
         ensures succeeds { writes_block self.now ≡ false → IsOk result }

@@ -19,6 +19,8 @@ impl Message {
     /// The same message. A block shares its memory with the copy: no byte of it is copied, and nothing is allocated.
     ///
     /// It fails for a block alone, if more share it than can be counted. The allocator's error stands for that.
+    // in one piece with its callers, so that the copy is not passed through memory
+    #[inline(always)]
     pub fn copy(&self) -> Result<Message, AllocError>
         ensures same { IfOk result (λ copy. copy ≡ self.now) }
         ensures succeeds { is_block self.now ≡ false → IsOk result }
