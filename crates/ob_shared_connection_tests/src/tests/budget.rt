@@ -152,15 +152,27 @@ fn what_is_tried_gives_back_too_if_the_lock_is_free(rt: HostRuntime) -> Result<(
     Ok(())
 }
 
-/// The turn of pressure, if the lock was free.
-fn given(gave: Option<(Option<Pressure>, Wakes)>) -> Option<Option<Pressure>> {
+/// What a call that tried the lock returned, if that was free.
+fn given<T>(gave: Option<(Option<T>, Wakes)>) -> Option<Option<T>> {
     match gave {
-        Some((pressure, wakes)) => {
+        Some((answer, wakes)) => {
             let _whom = told(wakes);
-            Some(pressure)
+            Some(answer)
         }
         None => None,
     }
+}
+
+#[test]
+fn what_the_seat_holds_can_be_seen(rt: HostRuntime) -> Result<(), Fail> {
+    let mut cover = budget(rt.alloc(), 300)?;
+    let mut handle = within(rt.alloc(), &mut cover)?;
+    assert!(rt; handle.held(&rt) == Some(0) && write(&rt, &mut handle) == Ok(None));
+    assert!(rt; given(handle.try_held()) == Some(Some(300)));
+    let mut guard = handle.another()?.lock(&rt);
+    assert!(rt; given(handle.try_held()).is_none() && guard.rest().is_none());
+    assert!(rt; guard.held() == Some(100));
+    Ok(())
 }
 
 #[test]
@@ -173,7 +185,7 @@ fn a_connection_within_none_is_never_refused_for_one(rt: HostRuntime) -> Result<
     for _ in 0..20u32 {
         assert!(rt; write(&rt, &mut handle) == Ok(None));
     }
-    assert!(rt; handle.settle(&rt).is_none());
+    assert!(rt; handle.settle(&rt).is_none() && handle.held(&rt).is_none());
     Ok(())
 }
 
