@@ -2,7 +2,7 @@
 use Rattle.std.proofs.Common.{◌≡◌, ◌≤◌, ◌<◌, ℕ, List, length, ap, sym, subst, refl, arith, Ok, Err, Some, Result, IfOk}
 use Rattle.std.specs.Prelude.{Option, min, max, take}
 use Rattle.std.proofs.lemmas.List.{length-take}
-use Rattle.ob_types.specs.Refusal.{number_of}
+use Rattle.ob_types.specs.Replies.{number_of}
 use Rattle.ob_types.specs.declared.refusal.Refusal.{Refusal}
 use Rattle.ob_seq.specs.Effect.{byte_run, rows_after, bytes_in, pieces_within}
 use Rattle.ob_seq.specs.Looks.{first_blocks, with_bytes}

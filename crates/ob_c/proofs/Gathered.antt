@@ -4,7 +4,7 @@ use Rattle.std.proofs.lemmas.List.{append-nil, length-append, map-append, take_m
 use Rattle.ob_types.specs.declared.command.Command.{Command}
 use Rattle.ob_types.specs.declared.message.Message.{Message}
 use Rattle.ob_types.specs.declared.message.Message.TheVariants.{Block, Region, Other}
-use Rattle.ob_types.specs.Block.{is_block}
+use Rattle.ob_types.specs.Traits.{is_block}
 use Rattle.ob_seq.specs.Effect.{block_bytes, blocks_in_front, rows_after}
 use Rattle.ob_seq.specs.Looks.{first_blocks, with_bytes, gathered_after, flushed_after}
 use Rattle.ob_seq.specs.Rows.{line, Row, Place, unread_part, without_skipped, is_flushed, Settings}

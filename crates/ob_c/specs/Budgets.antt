@@ -1,7 +1,7 @@
 -- What an export promises of a budget, and of a connection that it covers.
 use Rattle.std.specs.Prelude.{◌≡◌, ◌<◌, ◌/◌, ℕ, ⊤, Bool, true, false, List, [], Option, Some, None, option_map, Result, Ok, Err}
-use Rattle.ob_types.specs.Refusal.{number_of}
-use Rattle.ob_types.specs.WaterMark.{Marks}
+use Rattle.ob_types.specs.Marks.{Marks}
+use Rattle.ob_types.specs.Replies.{number_of}
 use Rattle.ob_types.specs.declared.command.Command.TheVariants.{SetMarks}
 use Rattle.ob_types.specs.declared.message.Message.{Message}
 use Rattle.ob_types.specs.declared.message.Message.TheVariants.{Block as AsBlock}

@@ -1,13 +1,13 @@
 -- What an export promises of a look.
 use Rattle.std.specs.Prelude.{◌≡◌, ℕ, ◌-◌, Bool, true, false, List, length, Option, Some, None, option_map, Result, Ok, Err}
-use Rattle.ob_types.specs.WaterMark.{Marks}
+use Rattle.ob_types.specs.Marks.{Marks}
 use Rattle.ob_types.specs.declared.command.Command.{Command}
 use Rattle.ob_types.specs.declared.estimate.Estimate.{Estimate}
 use Rattle.ob_types.specs.declared.message.Message.{Message}
 use Rattle.ob_types.specs.declared.message.Message.TheVariants.{Block, Region, Other}
 use Rattle.ob_seq.specs.Looks.{current_after, look_after}
-use Rattle.ob_seq.specs.Mark.{marks_after}
 use Rattle.ob_seq.specs.Rows.{Settings}
+use Rattle.ob_seq.specs.State.{marks_after}
 use Rattle.ob_connection.specs.Connected.{Connected, Gives}
 use Rattle.ob_connection.specs.Looks.{unflushed_count_after, waiting_count_after}
 use Rattle.ob_connection.specs.declared.look.Look.{Look as LookReply}

@@ -1,7 +1,7 @@
 -- What an export promises of a managed connection.
 use Rattle.std.specs.Prelude.{◌≡◌, ℕ, ⊤, Bool, false, List, [], ◌∷◌, Option, Some, None, option_map, Result, Ok, Err}
-use Rattle.ob_types.specs.Refusal.{number_of}
-use Rattle.ob_types.specs.WaterMark.{Marks}
+use Rattle.ob_types.specs.Marks.{Marks}
+use Rattle.ob_types.specs.Replies.{number_of}
 use Rattle.ob_types.specs.declared.command.Command.TheVariants.{SetMarks}
 use Rattle.ob_types.specs.declared.message.Message.{Message}
 use Rattle.ob_types.specs.declared.message.Message.TheVariants.{Block as AsBlock}
@@ -11,12 +11,10 @@ use Rattle.ob_seq.specs.State.{writable_after, closed_after, empty_after}
 use Rattle.ob_connection.specs.Connected.{Connected, Shrinks, Gives as ConnectionGives}
 use Rattle.ob_connection.specs.Obeying.{done_reply}
 use Rattle.ob_connection.specs.declared.replies.Written.{Written as WrittenReply}
-use Rattle.ob_lifecycle.specs.Events.{Event, Finishing, Ticked, happens}
-use Rattle.ob_lifecycle.specs.Finish.{is_finishing, was_over}
-use Rattle.ob_lifecycle.specs.Managed.{Brings, Gives, Managed, StandsFor, opened_as}
-use Rattle.ob_lifecycle.specs.Numbers.{numbers_after}
+use Rattle.ob_lifecycle.specs.Events.{Event, Finishing, Ticked, happens, is_finishing, was_over}
+use Rattle.ob_lifecycle.specs.Managed.{Brings, Gives, Managed, StandsFor, opened_as, WritesTo}
 use Rattle.ob_lifecycle.specs.Stalls.{names_by}
-use Rattle.ob_lifecycle.specs.Writes.{WritesTo}
+use Rattle.ob_lifecycle.specs.Strain.{numbers_after}
 use Rattle.ob_lifecycle.specs.declared.count.Count.{Count as CountReply}
 use Rattle.ob_lifecycle.specs.declared.fault.Told.{Told}
 use Rattle.ob_lifecycle.specs.declared.fault.WriteFault.{WriteFault}

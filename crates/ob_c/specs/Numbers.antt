@@ -1,6 +1,6 @@
 -- The numbers that C sees.
 use Rattle.std.specs.Prelude.{ℕ, ⊤, Option, Some, None, Result, Ok, Err}
-use Rattle.ob_types.specs.Refusal.{number_of}
+use Rattle.ob_types.specs.Replies.{number_of}
 use Rattle.ob_types.specs.declared.promise.Outcome.{Outcome}
 use Rattle.ob_types.specs.declared.promise.Outcome.TheVariants.{Success, Failed, Cancelled}
 use Rattle.ob_types.specs.declared.refusal.Refusal.{Refusal}

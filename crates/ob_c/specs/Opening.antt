@@ -1,8 +1,8 @@
 -- What an export promises of an opening, and of new marks.
 use Rattle.std.specs.Prelude.{◌≡◌, ℕ, Bool, true, false, ◌||◌, [], nat_lt, if◌then◌else◌, Option, Some, None, Result, Ok, Err}
 use Rattle.ob_types.specs.Limits.{greatest_overhead, greatest_unknown}
-use Rattle.ob_types.specs.Refusal.{number_of}
-use Rattle.ob_types.specs.WaterMark.{Marks, water_mark_of}
+use Rattle.ob_types.specs.Marks.{Marks, water_mark_of}
+use Rattle.ob_types.specs.Replies.{number_of}
 use Rattle.ob_types.specs.declared.command.Command.TheVariants.{SetMarks}
 use Rattle.ob_types.specs.declared.refusal.Refusal.{Refusal}
 use Rattle.ob_seq.specs.Rows.{Settings}

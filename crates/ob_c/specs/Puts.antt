@@ -1,6 +1,6 @@
 -- What C is told of a write of a shared connection.
 use Rattle.std.specs.Prelude.{ℕ, Result, Ok, Err}
-use Rattle.ob_types.specs.Refusal.{number_of}
+use Rattle.ob_types.specs.Replies.{number_of}
 use Rattle.ob_connection.specs.declared.replies.Written.{Written as WrittenReply}
 use Rattle.ob_shared_connection.specs.declared.not_written.WriteFault.{WriteFault}
 use Rattle.ob_shared_connection.specs.declared.not_written.WriteFault.TheVariants.{Refused, Uncovered}

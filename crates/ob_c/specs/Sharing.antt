@@ -1,7 +1,7 @@
 -- What an export promises of a shared connection.
 use Rattle.std.specs.Prelude.{◌≡◌, ◌<◌, ◌⊎◌, ℕ, List, length, take, Option, Some, None, Result, Ok, Err}
-use Rattle.ob_types.specs.Refusal.{number_of}
-use Rattle.ob_types.specs.WaterMark.{Marks}
+use Rattle.ob_types.specs.Marks.{Marks}
+use Rattle.ob_types.specs.Replies.{number_of}
 use Rattle.ob_types.specs.declared.command.Command.TheVariants.{SetMarks}
 use Rattle.ob_types.specs.declared.message.Message.{Message}
 use Rattle.ob_types.specs.declared.message.Message.TheVariants.{Block as AsBlock}

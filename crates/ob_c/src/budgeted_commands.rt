@@ -1,6 +1,6 @@
 //! The commands of a connection that a budget covers, each with how pressure changed by it, and its rest.
 
-ghost use Rattle.ob_types.specs.WaterMark.{water_mark_of};
+ghost use Rattle.ob_types.specs.Marks.{water_mark_of};
 ghost use Rattle.ob_types.specs.declared.command.Command.TheVariants.{Flush, Progress, Cancel, UserBit};
 ghost use Rattle.ob_types.specs.declared.command.Command.TheVariants.{Remove, RemoveWith, RemoveBytes, FailFlushed, Close};
 ghost use Rattle.ob_types.specs.declared.promise.Outcome.TheVariants.{Success, Failed};

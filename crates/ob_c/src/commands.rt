@@ -1,6 +1,6 @@
 //! The commands that take nothing away.
 
-ghost use Rattle.ob_types.specs.WaterMark.{water_mark_of};
+ghost use Rattle.ob_types.specs.Marks.{water_mark_of};
 ghost use Rattle.ob_types.specs.declared.command.Command.TheVariants.{Flush, Progress, Cancel, UserBit};
 ghost use Rattle.ob_connection.specs.Obeying.{flushed_reply, done_reply, cancelled_reply, bit_reply};
 ghost use Rattle.ob_c.specs.Numbers.{status_in_c};

@@ -1,12 +1,11 @@
 //! The commands of a managed connection, each with whether the end is reached by it, and the calls of its life.
 
-ghost use Rattle.ob_types.specs.WaterMark.{water_mark_of};
+ghost use Rattle.ob_types.specs.Marks.{water_mark_of};
 ghost use Rattle.ob_types.specs.declared.command.Command.TheVariants.{Flush, Progress, Cancel, UserBit};
 ghost use Rattle.ob_types.specs.declared.command.Command.TheVariants.{Remove, RemoveWith, RemoveBytes, FailFlushed, Close};
 ghost use Rattle.ob_types.specs.declared.promise.Outcome.TheVariants.{Success, Failed};
 ghost use Rattle.ob_connection.specs.Obeying.{bit_reply, cancelled_reply, done_reply, flushed_reply, removed_reply};
-ghost use Rattle.ob_lifecycle.specs.Events.{happens};
-ghost use Rattle.ob_lifecycle.specs.Sendings.{giving_up_happens};
+ghost use Rattle.ob_lifecycle.specs.Events.{happens, giving_up_happens};
 ghost use Rattle.ob_c.specs.Looks.{truth_in_c};
 ghost use Rattle.ob_c.specs.Managing.{Finishes, ManagesFor, SetsMarksFor, Ticks};
 ghost use Rattle.ob_c.specs.Managing.{told_cancelled_in_c, told_changed_in_c, told_done_in_c, told_flushed_in_c};

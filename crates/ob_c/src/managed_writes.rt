@@ -5,7 +5,7 @@
 
 ghost use Rattle.std.specs.Prelude.{◌≡◌};
 ghost use Rattle.ob_types.specs.declared.message.Message.TheVariants.{Block as AsBlock, Region as AsRegion, Other as AsOther};
-ghost use Rattle.ob_lifecycle.specs.Writes.{WritesTo};
+ghost use Rattle.ob_lifecycle.specs.Managed.{WritesTo};
 ghost use Rattle.ob_c.specs.Managing.{WritesBlockFor, WritesFor};
 
 use crate::block::Block;

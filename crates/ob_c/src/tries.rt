@@ -1,7 +1,7 @@
 //! The calls of a handle of a shared connection. Each tries the lock once, and does nothing if another call has it.
 
 ghost use Rattle.std.specs.Prelude.{◌≡◌, ⊤, IfErr, IfOk};
-ghost use Rattle.ob_types.specs.WaterMark.{water_mark_of};
+ghost use Rattle.ob_types.specs.Marks.{water_mark_of};
 ghost use Rattle.ob_types.specs.declared.command.Command.TheVariants as command;
 ghost use Rattle.ob_types.specs.declared.message.Message.TheVariants.{Block as AsBlock, Region as AsRegion, Other as AsOther};
 ghost use Rattle.ob_types.specs.declared.promise.Outcome.TheVariants.{Failed};

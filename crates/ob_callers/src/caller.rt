@@ -3,7 +3,7 @@
 ghost use Rattle.std.specs.Prelude.{◌≡◌, ◌↔◌, List, IsTrue};
 ghost use Rattle.ob_types.specs.declared.command.Command.{Command};
 ghost use Rattle.ob_seq.specs.Pending.{StandsFor};
-ghost use Rattle.ob_seq.specs.Word.{word_after};
+ghost use Rattle.ob_seq.specs.State.{word_after};
 
 use bytes::Bytes;
 use ob_seq::Buffer;

@@ -1,5 +1,8 @@
-pub mod Cli
 pub mod Drive
+pub mod Entry
+pub mod Inside
+pub mod More
 pub mod Outcome
+pub mod Request
 pub mod Run
 pub mod Turns

@@ -2,21 +2,17 @@
 
 ghost use Rattle.std.specs.Prelude.{◌≡◌, ◌≢◌, ◌≤◌, None, IfErr, IfOk, IfSome, IsErrOf, OnOk, length};
 ghost use Rattle.std.specs.Io.KnownBytes.{Appends, Keeps};
-ghost use Rattle.ob_history.specs.History.{most_records};
-ghost use Rattle.ob_history.specs.Legal.{IsLegal};
-ghost use Rattle.ob_pool.specs.Report.TellsOf.{TellsOf};
-ghost use Rattle.ob_pool.specs.Planning.PlansFault.{plans_fault};
+ghost use Rattle.ob_history.specs.History.{most_records, IsLegal};
+ghost use Rattle.ob_pool.specs.Drive.{plans_fault};
+ghost use Rattle.ob_pool.specs.Report.{TellsOf};
 ghost use Rattle.ob_pool.specs.declared.fault.DriveFault.{DriveFault};
-ghost use Rattle.ob_cli.specs.Drive.Report.{ComesTo, WritesReport};
-ghost use Rattle.ob_cli.specs.Drive.Script.{drive_grammar, plans_in, plans_of};
-ghost use Rattle.ob_cli.specs.Drive.Session.{HasKept};
-ghost use Rattle.ob_cli.specs.Drive.Text.{report_text};
-ghost use Rattle.ob_script.specs.Reading.Ending.{ReadingEnds};
-ghost use Rattle.ob_script.specs.Tracing.Interprets.{GoesThrough};
-ghost use Rattle.ob_cli.specs.Cli.Options.{first_history};
-ghost use Rattle.ob_script.specs.Outcome.{IsWritingFault};
+ghost use Rattle.ob_cli.specs.Drive.{ComesTo, WritesReport, drive_grammar, plans_in, plans_of, report_text};
+ghost use Rattle.ob_cli.specs.Inside.{HasKept};
+ghost use Rattle.ob_script.specs.Inside.{ReadingEnds};
+ghost use Rattle.ob_script.specs.Tracing.{GoesThrough, IsWritingFault};
+ghost use Rattle.ob_cli.specs.Run.{first_history};
 ghost use Rattle.ob_cli.specs.Outcome.{IsFaultOfDrive, OfScript};
-ghost use Rattle.ob_script.specs.Reading.Script.{greatest_script, script_lines};
+ghost use Rattle.ob_script.specs.Reading.{greatest_script, script_lines};
 ghost use Rattle.ob_cli.specs.declared.request_fault.RequestFault.TheVariants.{Drive, Script};
 
 pub mod line;

@@ -1,8 +1,7 @@
 //! The subcommand `run`: commands to one buffer, whose calls are recorded.
 
-ghost use Rattle.ob_script.specs.Tracing.Interprets.{Interprets};
-ghost use Rattle.ob_cli.specs.Cli.Options.{first_history};
-ghost use Rattle.ob_cli.specs.Run.Script.{run_language};
+ghost use Rattle.ob_script.specs.Tracing.{Interprets};
+ghost use Rattle.ob_cli.specs.Run.{first_history, run_language};
 
 pub mod blocks;
 pub mod line;

@@ -1,7 +1,7 @@
 //! The subcommand `core`: the turns of lanes. A module of its name would hide the library `core`.
 
-ghost use Rattle.ob_cli.specs.Turns.Script.{core_language};
-ghost use Rattle.ob_script.specs.Tracing.Interprets.{Interprets};
+ghost use Rattle.ob_cli.specs.Turns.{core_language};
+ghost use Rattle.ob_script.specs.Tracing.{Interprets};
 
 pub mod line;
 pub mod session;

@@ -3,7 +3,7 @@ pub use Rattle.std.proofs.Common.{◌≡◌, refl, sym, ap, ◌∙◌, subst, ar
 pub use Rattle.std.proofs.Common.{Bool, true, false, length, map, take, drop, ltb, cond, append_assoc, append-nil, length-append, not, inl, inr, ◌⊎◌}
 pub use Rattle.std.specs.Prelude.{Option, Some, None, Result, Ok, Err, is_ok, IsErrOf, OnErr, IfOk, if◌then◌else◌, ⊤}
 pub use Rattle.std.proofs.lemmas.Bool.Decides.{nat_tests}
-pub use Rattle.ob_types.specs.Change.{change_between}
+pub use Rattle.ob_types.specs.Marks.{change_between}
 pub use Rattle.ob_types.specs.declared.command.Command.{Command}
 pub use Rattle.ob_types.specs.declared.promise.Outcome.{Outcome}
 pub use Rattle.ob_types.specs.declared.promise.PromiseState.{PromiseState}

@@ -1,13 +1,11 @@
 -- What the words hold if one free lane has the whole room: nothing is owed, so bit 0 is clear.
 use Rattle.std.proofs.Common.{◌≡◌, ℕ, ◌<◌, ◌≤◌, false, Some, ap, unwrap_or, arith}
 use Rattle.std.specs.List.{slice_get}
-use Rattle.ob_types.specs.WaterMark.{Marks}
-use Rattle.ob_core.specs.Accounts.{AccountsHold}
+use Rattle.ob_types.specs.Marks.{Marks}
+use Rattle.ob_core.specs.Accounts.{AccountsHold, owed_by}
 use Rattle.ob_core.specs.Bits.{is_set}
-use Rattle.ob_core.specs.CoreState.{CoreState}
-use Rattle.ob_core.specs.Beginning.{Grant}
-use Rattle.ob_core.specs.Owed.{owed_by}
 use Rattle.ob_core.specs.Parts.{IsFree}
+use Rattle.ob_core.specs.World.{CoreState, Grant}
 use Rattle.ob_core.specs.declared.lane.Lane.{Lane}
 use Rattle.ob_core.proofs.AccountsLemmas.{total-le-outside}
 

@@ -1,10 +1,8 @@
 -- The change of a step by what it finds.
 use Rattle.std.proofs.Common.{◌≡◌, ℕ, ◌<◌, ap, ◌∙◌, arith}
-use Rattle.ob_types.specs.Change.{change_between}
-use Rattle.ob_types.specs.Packed.{packed, word_half, total_half}
-use Rattle.ob_core.specs.CoreState.{CoreState}
-use Rattle.ob_core.specs.Found.{value_found, change_found}
-use Rattle.ob_core.specs.LaneStep.{word_after}
+use Rattle.ob_types.specs.Marks.{change_between, packed, word_half, total_half}
+use Rattle.ob_core.specs.Step.{value_found, change_found, word_after}
+use Rattle.ob_core.specs.World.{CoreState}
 use Rattle.ob_core.specs.declared.lane_step.LaneStep.{LaneStep}
 
 -- a word and a total are found again in the number that they were packed into, if the total fits its half

@@ -1,11 +1,9 @@
 -- What each step and each ask that is none keeps, each turn keeps.
 use Rattle.std.proofs.Common.{◌≡◌, ℕ, List, [], ◌∷◌, set, Option, Some, None, slice_get, refl}
-use Rattle.ob_core.specs.AskFault.{refusal_of}
-use Rattle.ob_core.specs.CoreState.{CoreState}
-use Rattle.ob_core.specs.CoreStep.{core_after_step}
-use Rattle.ob_core.specs.LaneStep.{CanMake}
-use Rattle.ob_core.specs.Run.{core_after_all}
-use Rattle.ob_core.specs.Turn.{step_of, lane_after_nothing, core_after, core_unless, core_after_ask, core_after_ask_at}
+use Rattle.ob_core.specs.Step.{refusal_of, core_after_step, CanMake}
+use Rattle.ob_core.specs.Turn.{core_after_all, step_of, lane_after_nothing, core_after, core_unless, core_after_ask}
+use Rattle.ob_core.specs.Turn.{core_after_ask_at}
+use Rattle.ob_core.specs.World.{CoreState}
 use Rattle.ob_core.specs.declared.ask.Ask.{Ask}
 use Rattle.ob_core.specs.declared.ask.Turn.{Turn}
 use Rattle.ob_core.specs.declared.ask_fault.AskFault.{AskFault}

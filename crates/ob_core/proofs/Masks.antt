@@ -7,7 +7,7 @@ use Rattle.std.proofs.Math.Seq.{drop-cons}
 use Rattle.std.proofs.lemmas.Bool.Decides.{nat_tests}
 use Rattle.std.proofs.lemmas.Nat.{and_or_apart}
 use Rattle.std.proofs.lemmas.Nat.Bits.{bit_at_and, bit_at_or, bit_at-zero, same_from_bits}
-use Rattle.ob_core.specs.Beginning.{share_a_bit, any_overlap}
+use Rattle.ob_core.specs.World.{share_a_bit, any_overlap}
 use Rattle.ob_core.specs.declared.lane_start.LaneStart.{LaneStart}
 
 -- if two masks together have no bit of a third, neither has the second

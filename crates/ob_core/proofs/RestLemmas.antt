@@ -1,8 +1,7 @@
 -- What a step leaves.
 use Rattle.std.proofs.Common.{ℕ, ◌+◌, ◌-◌, ◌<◌, ◌≢◌, refl, arith}
-use Rattle.ob_core.specs.CoreState.{CoreState}
-use Rattle.ob_core.specs.CoreStep.{core_after_step}
-use Rattle.ob_core.specs.Rest.{LeavesRest}
+use Rattle.ob_core.specs.Step.{core_after_step, LeavesRest}
+use Rattle.ob_core.specs.World.{CoreState}
 use Rattle.ob_core.specs.declared.lane.Lane.{Lane}
 use Rattle.ob_core.specs.declared.lane_step.LaneStep.{LaneStep}
 use Rattle.ob_core.specs.declared.lane_step.LaneStep.TheVariants.{Add, Subtract, SetBit, ClearBit, Load}

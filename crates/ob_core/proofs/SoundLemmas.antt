@@ -2,17 +2,12 @@
 use Rattle.std.proofs.Common.{◌≡◌, ℕ, ◌≤◌, List, set, Some, None, slice_get, unwrap_or, ap, arith, length-set}
 use Rattle.std.proofs.lemmas.Bool.Decides.{nat_tests}
 use Rattle.std.proofs.lemmas.List.{length-map}
-use Rattle.ob_types.specs.WaterMark.{Marks}
-use Rattle.ob_core.specs.Accounts.{AccountsHold}
-use Rattle.ob_core.specs.AskFault.{refusal_of}
-use Rattle.ob_core.specs.CoreState.{CoreState}
-use Rattle.ob_core.specs.CoreStep.{core_after_step}
-use Rattle.ob_core.specs.LaneStep.{CanMake, FitsTotal, FitsWord}
-use Rattle.ob_core.specs.Limits.{greatest_room}
-use Rattle.ob_core.specs.Beginning.{start_fault, grant_of, new_lane, new_core}
-use Rattle.ob_core.specs.Owed.{owed_by, sum_owed}
-use Rattle.ob_core.specs.Sound.{IsSound}
+use Rattle.ob_types.specs.Marks.{Marks}
+use Rattle.ob_core.specs.Accounts.{AccountsHold, owed_by, sum_owed}
+use Rattle.ob_core.specs.Inside.{IsSound}
+use Rattle.ob_core.specs.Step.{refusal_of, core_after_step, CanMake, FitsTotal, FitsWord}
 use Rattle.ob_core.specs.Turn.{step_of, lane_after_nothing}
+use Rattle.ob_core.specs.World.{CoreState, greatest_room, start_fault, grant_of, new_lane, new_core}
 use Rattle.ob_core.specs.declared.ask.Ask.{Ask}
 use Rattle.ob_core.specs.declared.ask.Turn.{Turn}
 use Rattle.ob_core.specs.declared.lane.Lane.{Lane}

@@ -1,11 +1,17 @@
 -- The accounts: what the two halves of the word, the lanes and what they were opened with say of one another.
-use Rattle.std.specs.Prelude.{◌≡◌, ℕ, ◌<◌, ◌≤◌, true, false, List, sum_by, All}
 use Rattle.std.specs.Int.{bit_at}
+use Rattle.std.specs.Prelude.{ℕ, List, unwrap_or, sum_by, ◌≡◌, ◌<◌, ◌≤◌, true, false, All}
 use Rattle.ob_core.specs.Bits.{is_set, AreAmong}
-use Rattle.ob_core.specs.CoreState.{CoreState}
-use Rattle.ob_core.specs.Beginning.{Grant}
-use Rattle.ob_core.specs.Owed.{owed_by, sum_owed}
+use Rattle.ob_core.specs.World.{CoreState, Grant}
 use Rattle.ob_core.specs.declared.lane.Lane.{Lane}
+
+-- the bytes that a lane owes, 0 if it has no debt
+abbrev pub owed_by : Lane → ℕ
+owed_by lane = unwrap_or lane.debt 0
+
+-- the bytes that the lanes owe together
+abbrev pub sum_owed : List Lane → ℕ
+sum_owed lanes = sum_by owed_by lanes
 
 -- the rooms of the lanes together
 abbrev pub sum_of_rooms : List Lane → ℕ

@@ -1,5 +1,8 @@
--- How a world keeps its core. No public clause cites this module.
-use Rattle.ob_core.specs.CoreState.{CoreState}
+-- How a world keeps its core, and what holds of each that was made, whatever turns it had. No public clause cites this
+-- module.
+use Rattle.std.specs.Prelude.{◌<◌, ◌≤◌, length}
+use Rattle.ob_core.specs.Accounts.{AccountsHold}
+use Rattle.ob_core.specs.World.{CoreState, most_lanes, greatest_room, Grant}
 use Rattle.ob_core.specs.declared.world.World.TheInside.{Inside}
 
 -- the core that the fields of a world hold
@@ -10,3 +13,13 @@ core_of inside = record {
   marks = inside.marks;
   lanes = inside.lanes.items;
 }
+
+-- there are some lanes, and not too many, whose accounts hold with what they were opened with; the low mark is at most
+-- the high one, and the rooms keep to their limit
+pub record IsSound (core : CoreState) : Type 0 where
+  pub grant : Grant
+  pub accounts : AccountsHold grant core
+  pub ordered : grant.marks.low ≤ grant.marks.high
+  pub rooms_fit : grant.room ≤ greatest_room
+  pub some_lane : 0 < length core.lanes
+  pub few_lanes : length core.lanes ≤ most_lanes

@@ -1,7 +1,7 @@
 -- Lanes divided and merged. It is no step of one lane, and changes neither the total nor the word.
 use Rattle.std.specs.Prelude.{◌≡◌, ◌≢◌, ℕ, ◌+◌, [], ◌∷◌, ◌++◌, Some, None, slice_get, slice_set}
 use Rattle.ob_core.specs.Bits.{AreAmong, MakeUp}
-use Rattle.ob_core.specs.CoreState.{CoreState}
+use Rattle.ob_core.specs.World.{CoreState}
 use Rattle.ob_core.specs.declared.lane.Lane.{Lane}
 
 -- a free lane has no debt

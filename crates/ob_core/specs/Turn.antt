@@ -1,17 +1,19 @@
--- One turn of a schedule: a refused ask, one core step, or nothing.
-use Rattle.std.specs.Prelude.{ℕ, ◌==◌, Option, Some, None, slice_get, slice_set, if◌then◌else◌}
-use Rattle.ob_types.specs.Change.{change_between}
+-- One turn of a schedule: a refused ask, one core step, or nothing. And the run: its turns one after the other.
+use Rattle.std.specs.List.{filter_map}
+use Rattle.std.specs.Prelude.{ℕ, ◌==◌, Option, Some, None, slice_get, slice_set, if◌then◌else◌, ◌≡◌, unwrap_or, List}
+use Rattle.std.specs.Prelude.{[], ◌∷◌}
+use Rattle.ob_types.specs.Marks.{change_between}
 use Rattle.ob_types.specs.declared.reply.Change.{Change}
-use Rattle.ob_core.specs.AskFault.{refusal_of, refusal_at}
-use Rattle.ob_core.specs.CoreState.{CoreState}
-use Rattle.ob_core.specs.CoreStep.{core_after_step}
+use Rattle.ob_types.specs.declared.reply.Change.TheVariants.{Unwritable, Writable}
+use Rattle.ob_core.specs.Step.{refusal_of, refusal_at, core_after_step, IsCoreStep}
+use Rattle.ob_core.specs.World.{CoreState, WorldState}
 use Rattle.ob_core.specs.declared.ask.Ask.{Ask}
 use Rattle.ob_core.specs.declared.ask.Ask.TheVariants.{Charge, Discharge, Bit, Word, Total, Go}
 use Rattle.ob_core.specs.declared.ask.Turn.{Turn}
 use Rattle.ob_core.specs.declared.ask_fault.AskFault.{AskFault}
 use Rattle.ob_core.specs.declared.event.Event.{Event}
-use Rattle.ob_core.specs.declared.event.Event.TheVariants.{Added, Subtracted, BitSet, BitCleared}
-use Rattle.ob_core.specs.declared.event.Event.TheVariants.{ReadWord, ReadTotal, Nothing, Refused}
+use Rattle.ob_core.specs.declared.event.Event.TheVariants.{Added, Subtracted, BitSet, BitCleared, ReadWord, ReadTotal}
+use Rattle.ob_core.specs.declared.event.Event.TheVariants.{Nothing, Refused}
 use Rattle.ob_core.specs.declared.lane.Lane.{Lane}
 use Rattle.ob_core.specs.declared.lane_step.LaneStep.{LaneStep}
 use Rattle.ob_core.specs.declared.lane_step.LaneStep.TheVariants.{Add, Subtract, SetBit, ClearBit, Load}
@@ -96,3 +98,53 @@ core_after core turn = core_after_ask_at core turn.lane (slice_get core.lanes tu
 -- the change of a turn, read off the word before and after it
 abbrev pub change_of : CoreState → Turn → Option Change
 change_of core turn = change_between core.word (core_after core turn).word
+
+-- the lane with this index owes 0 before and after, and nothing changes but whether that is a debt of 0 or none
+pub record OwesNothing (old : CoreState) (index : ℕ) (new : CoreState) : Type 0 where
+  pub lane : Lane
+  pub debt : Option ℕ
+  pub is_lane : slice_get old.lanes index ≡ Some lane
+  pub owed_none : unwrap_or lane.debt 0 ≡ 0
+  pub owes_none : unwrap_or debt 0 ≡ 0
+  pub after : new ≡ record old { lanes = slice_set old.lanes index (record lane { debt = debt }) }
+
+-- a turn of the lane with this index that had this event led from the old core state to the new one
+abbrev pub IsOneStep : CoreState → ℕ → Event → CoreState → Type 0
+IsOneStep old index Added new = (amount : ℕ) × IsCoreStep old index (Add amount) new
+IsOneStep old index Subtracted new = (amount : ℕ) × IsCoreStep old index (Subtract amount) new
+IsOneStep old index BitSet new = (bit : ℕ) × IsCoreStep old index (SetBit bit) new
+IsOneStep old index BitCleared new = (bit : ℕ) × IsCoreStep old index (ClearBit bit) new
+IsOneStep old index ReadWord new = IsCoreStep old index Load new
+IsOneStep old index ReadTotal new = IsCoreStep old index Load new
+IsOneStep old index Nothing new = OwesNothing old index new
+IsOneStep old index (Refused fault) new = new ≡ old
+
+-- the core state after all turns
+abbrev pub core_after_all : CoreState → List Turn → CoreState
+core_after_all core [] = core
+core_after_all core (turn ∷ turns) = core_after_all (core_after core turn) turns
+
+-- the change of the last turn; if there is no turn, the one before
+abbrev pub last_change_after : WorldState → List Turn → Option Change
+last_change_after world [] = world.last_change
+last_change_after world (turn ∷ turns) =
+    last_change_after (record { core = core_after world.core turn; last_change = change_of world.core turn }) turns
+
+-- what each turn returns: its event and its change
+abbrev pub answers_of : CoreState → List Turn → List (Event × Option Change)
+answers_of core [] = []
+answers_of core (turn ∷ turns) = (event_of core turn, change_of core turn) ∷ answers_of (core_after core turn) turns
+
+-- the changes among the answers, in order
+abbrev pub changes_in : List (Event × Option Change) → List Change
+changes_in answers = filter_map (λ answer. answer.1) answers
+
+-- the other change
+abbrev pub opposite : Change → Change
+opposite Unwritable = Writable
+opposite Writable = Unwritable
+
+-- the changes go to and fro, and begin with this one
+abbrev pub AlternateFrom : Change → List Change → Type 0
+AlternateFrom first [] = Unit {0}
+AlternateFrom first (change ∷ changes) = (change ≡ first) × AlternateFrom (opposite first) changes

@@ -3,12 +3,9 @@ use Rattle.std.specs.Prelude.{◌≡◌, ℕ, ◌+◌, ◌*◌, ◌^◌, List, [
 use Rattle.ob_types.specs.declared.reply.Change.TheVariants.{Unwritable, Writable}
 use Rattle.ob_core.specs.Accounts.{AccountsHold, MarkAgrees}
 use Rattle.ob_core.specs.Bits.{with_bit, without_bit, SetsBit, ClearsBit}
-use Rattle.ob_core.specs.CoreState.{CoreState}
-use Rattle.ob_core.specs.Found.{value_found, change_found}
-use Rattle.ob_core.specs.LaneStep.{word_after}
-use Rattle.ob_core.specs.Beginning.{Grant}
-use Rattle.ob_core.specs.Rest.{LeavesRest}
 use Rattle.ob_core.specs.Parts.{AreParts, IsDivision, IsMerger, spent_lane}
+use Rattle.ob_core.specs.Step.{value_found, change_found, word_after, LeavesRest}
+use Rattle.ob_core.specs.World.{CoreState, Grant}
 use Rattle.ob_core.specs.declared.lane.Lane.{Lane}
 use Rattle.ob_core.specs.declared.lane_step.LaneStep.TheVariants.{Add, Subtract, SetBit, ClearBit, Load}
 

@@ -26,7 +26,7 @@ pub enum AskFault {
 }
 
 impl AskFault {
-    ghost use Rattle.ob_core.specs.AskFault.{number_of};
+    ghost use Rattle.ob_core.specs.Step.{number_of};
 
     /// The number of the fault, 1 to 6, as traces print it.
     pub fn number(self) -> u8

@@ -1,6 +1,5 @@
 ghost use Rattle.std.specs.Prelude.{◌≡◌, ◌<◌, ◌≤◌, length, map};
-ghost use Rattle.ob_core.specs.Limits.{most_lanes};
-ghost use Rattle.ob_core.specs.Beginning.{start_fault, room_of, any_overlap, holders_of};
+ghost use Rattle.ob_core.specs.World.{most_lanes, start_fault, room_of, any_overlap, holders_of};
 
 use crate::bits::MARK_BIT;
 use crate::lane_start::LaneStart;

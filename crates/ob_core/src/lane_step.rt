@@ -19,7 +19,7 @@ pub enum LaneStep {
 
 impl LaneStep {
     ghost use Rattle.std.specs.Prelude.{◌≡◌};
-    ghost use Rattle.ob_core.specs.LaneStep.{FitsTotal, FitsWord, total_after, word_after, lane_after};
+    ghost use Rattle.ob_core.specs.Step.{FitsTotal, FitsWord, total_after, word_after, lane_after};
 
     /// The total after the step.
     pub(crate) fn total_after(self, total: u32) -> u32

@@ -1,5 +1,5 @@
 ghost use Rattle.std.specs.Prelude.{◌≡◌, [], IfOk, OnOk, OnErr, IsOk, IsOkUnless};
-ghost use Rattle.ob_core.specs.Run.{answers_of, core_after_all, last_change_after};
+ghost use Rattle.ob_core.specs.Turn.{answers_of, core_after_all, last_change_after};
 
 use crate::ask::Turn;
 use crate::event::Event;

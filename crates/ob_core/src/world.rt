@@ -1,6 +1,6 @@
 ghost use Rattle.std.specs.Prelude.{◌≡◌, IfOk, IfSome, IsOkUnless};
-ghost use Rattle.ob_core.specs.Beginning.{start_fault, new_world};
 ghost use Rattle.ob_core.specs.Turn.{event_of, core_after, change_of};
+ghost use Rattle.ob_core.specs.World.{start_fault, new_world};
 
 mod looks;
 
@@ -34,12 +34,11 @@ pub struct World {
 }
 
 impl Model for World {
-    ghost use Rattle.ob_core.specs.CoreState.{WorldState};
+    ghost use Rattle.ob_core.specs.World.{WorldState};
 
     ghost Value = { WorldState };
 
-    ghost use Rattle.ob_core.specs.Inside.{core_of};
-    ghost use Rattle.ob_core.specs.Sound.{IsSound};
+    ghost use Rattle.ob_core.specs.Inside.{core_of, IsSound};
 
     ghost view = { λ world. record { core = core_of world; last_change = world.last_change } };
 

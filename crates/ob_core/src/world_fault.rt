@@ -21,7 +21,7 @@ pub enum WorldFault {
 }
 
 impl WorldFault {
-    ghost use Rattle.ob_core.specs.WorldFault.{number_of};
+    ghost use Rattle.ob_core.specs.World.{number_of};
 
     /// The number of the fault, 1 to 4.
     pub fn number(self) -> u8

@@ -1,7 +1,7 @@
 -- Beginnings of records.
 use Rattle.std.proofs.Common.{List, [], ◌++◌, refl, sym, ap, ◌∙◌, append_assoc}
 use Rattle.std.proofs.lemmas.List.{append-nil}
-use Rattle.ob_history.specs.Beginning.{IsBeginning}
+use Rattle.ob_history.specs.History.{IsBeginning}
 use Rattle.ob_history.specs.declared.record.Record.{Record}
 
 -- records begin themselves

@@ -9,9 +9,7 @@ use Rattle.ob_types.specs.declared.refusal.Refusal.{Refusal}
 use Rattle.ob_types.specs.declared.reply.Reply.{Reply}
 use Rattle.ob_seq.specs.Rows.{Settings}
 use Rattle.ob_seq.specs.Answer.{answer_to, commands_after}
-use Rattle.ob_history.specs.Accepted.{accepted_commands, is_accepted}
-use Rattle.ob_history.specs.History.{History}
-use Rattle.ob_history.specs.Legal.{IsLegal}
+use Rattle.ob_history.specs.History.{accepted_commands, is_accepted, History, IsLegal}
 use Rattle.ob_history.specs.declared.record.Record.{Record}
 
 -- what stands at an index of a list with one more: what stood there before, or the new one at the end

@@ -1,18 +1,17 @@
 -- One more call of a stored history.
-use Rattle.std.specs.Prelude.{ℕ, ◌-◌, ◌<◌, ◌≤◌, ◌≡◌, ◌==◌, Bool, true, false, [], ◌∷◌, ◌++◌, length, if◌then◌else◌, Result}
-use Rattle.std.specs.Prelude.{Ok, Err, IsErrOf, IsOk, IsOkUnless, OnErr}
+use Rattle.std.specs.Prelude.{ℕ, ◌-◌, ◌<◌, ◌≤◌, ◌≡◌, ◌==◌, Bool, true, false, [], ◌∷◌, ◌++◌, length, if◌then◌else◌}
+use Rattle.std.specs.Prelude.{Result, Ok, Err, IsErrOf, IsOk, IsOkUnless, OnErr}
 use Rattle.ob_types.specs.Limits.{inline_settlements}
-use Rattle.ob_types.specs.Write.{is_write}
+use Rattle.ob_types.specs.Traits.{is_write}
 use Rattle.ob_types.specs.declared.command.Command.{Command}
 use Rattle.ob_types.specs.declared.refusal.Refusal.{Refusal}
 use Rattle.ob_types.specs.declared.refusal.Refusal.TheVariants.{HistoryFull, NoMemory}
 use Rattle.ob_seq.specs.Answer.{answer_to}
 use Rattle.ob_seq.specs.Pending.{settled_after}
-use Rattle.ob_history.specs.Accepted.{accepted_commands}
-use Rattle.ob_history.specs.History.{History}
-use Rattle.ob_history.specs.Receipt.{receipt_of}
-use Rattle.ob_history.specs.declared.record.Record.{Record}
+use Rattle.ob_history.specs.History.{accepted_commands, History}
+use Rattle.ob_history.specs.Receipts.{receipt_of}
 use Rattle.ob_history.specs.declared.receipt.Receipt.{Receipt}
+use Rattle.ob_history.specs.declared.record.Record.{Record}
 
 -- whether a history holds as many records as it may
 abbrev pub is_full : History → Bool

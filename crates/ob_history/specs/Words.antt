@@ -8,14 +8,9 @@ pub use Rattle.ob_seq.specs.Looks.{promise_after}
 pub use Rattle.ob_seq.specs.Rows.{Settings}
 pub use Rattle.ob_seq.specs.Pending.{times_settled}
 pub use Rattle.ob_seq.specs.State.{writes_in}
-pub use Rattle.ob_history.specs.Accepted.{accepted_commands, is_accepted}
-pub use Rattle.ob_history.specs.Beginning.{IsBeginning}
 pub use Rattle.ob_history.specs.Call.{IsCall, IsRecording, history_after, next_record}
-pub use Rattle.ob_history.specs.First.{IsFirstBreak}
-pub use Rattle.ob_history.specs.Glance.{glance_after}
-pub use Rattle.ob_history.specs.History.{History, IsBounded, IsReservation, new_history}
-pub use Rattle.ob_history.specs.Legal.{IsBufferOf, IsLegal}
-pub use Rattle.ob_history.specs.Own.{AreGivenSince, AreOwn, HoldAll, Holding, records_of}
-pub use Rattle.ob_history.specs.Receipt.{IsReceiptIn, receipt_of, record_of}
-pub use Rattle.ob_history.specs.Seen.{IsLookAt, IsSeenIn, seen_now}
-pub use Rattle.ob_history.specs.Settlements.{settlements_in, settles}
+pub use Rattle.ob_history.specs.History.{accepted_commands, is_accepted, IsBeginning, IsFirstBreak, History, IsBounded}
+pub use Rattle.ob_history.specs.History.{IsReservation, new_history, IsBufferOf, IsLegal}
+pub use Rattle.ob_history.specs.Receipts.{AreGivenSince, AreOwn, HoldAll, Holding, records_of, IsReceiptIn, receipt_of}
+pub use Rattle.ob_history.specs.Receipts.{record_of}
+pub use Rattle.ob_history.specs.Seen.{glance_after, IsLookAt, IsSeenIn, seen_now, settlements_in, settles}

@@ -13,16 +13,10 @@ use Rattle.ob_types.specs.declared.reply.Answer.TheVariants.{Id, Count, Yes, Don
 use Rattle.ob_types.specs.declared.reply.Change.TheVariants.{Unwritable}
 use Rattle.ob_seq.specs.Rows.{Settings}
 use Rattle.ob_seq.specs.Worked.{empty_look}
-use Rattle.ob_history.specs.Accepted.{accepted_commands}
 use Rattle.ob_history.specs.Call.{IsCovered, call_answer, history_after}
-use Rattle.ob_history.specs.First.{IsFirstBreak}
-use Rattle.ob_history.specs.Glance.{glance_after}
-use Rattle.ob_history.specs.History.{History}
-use Rattle.ob_history.specs.Legal.{IsLegal}
-use Rattle.ob_history.specs.Own.{AreOwn, Holding, HoldAll, records_of}
-use Rattle.ob_history.specs.Receipt.{receipt_of}
-use Rattle.ob_history.specs.Seen.{seen_now}
-use Rattle.ob_history.specs.Settlements.{settlements_in, settles}
+use Rattle.ob_history.specs.History.{accepted_commands, IsFirstBreak, History, IsLegal}
+use Rattle.ob_history.specs.Receipts.{AreOwn, Holding, HoldAll, records_of, receipt_of}
+use Rattle.ob_history.specs.Seen.{glance_after, seen_now, settlements_in, settles}
 use Rattle.ob_history.specs.declared.record.Record.{Record}
 
 -- Netty's marks and sizes

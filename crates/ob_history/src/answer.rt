@@ -4,7 +4,7 @@ ghost use Rattle.std.specs.Prelude.{◌≡◌, ◌≤◌, ◌↔◌, List, lengt
 ghost use Rattle.ob_seq.specs.Pending.{Accepts, Answers, Follows, settled_by};
 ghost use Rattle.ob_types.specs.Limits.{inline_settlements};
 ghost use Rattle.ob_types.specs.declared.command.Command.{Command};
-ghost use Rattle.ob_history.specs.Copies.{IsSmall};
+ghost use Rattle.ob_history.specs.Inside.{IsSmall};
 
 use ob_seq::Buffer;
 use ob_types::{Command, Refusal, Reply, Settlements, Spare};

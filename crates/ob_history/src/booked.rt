@@ -1,7 +1,6 @@
 ghost use Rattle.std.specs.Prelude.{◌≡◌, ℕ};
 ghost use Rattle.ob_history.specs.Call.{IsCall, IsRecording};
-ghost use Rattle.ob_history.specs.History.{History, IsReservation};
-ghost use Rattle.ob_history.specs.Legal.{IsBufferOf};
+ghost use Rattle.ob_history.specs.History.{History, IsReservation, IsBufferOf};
 
 use crate::receipt::Receipt;
 use crate::recorded::Recorded;

@@ -1,6 +1,6 @@
 ghost use Rattle.std.specs.Prelude.{◌≡◌, ◌≤◌, false, length, IsOk, IfOk};
-ghost use Rattle.ob_types.specs.Block.{writes_block};
 ghost use Rattle.ob_types.specs.Limits.{inline_settlements};
+ghost use Rattle.ob_types.specs.Traits.{writes_block};
 ghost use Rattle.ob_seq.specs.Pending.{settled_by};
 
 use crate::answer;

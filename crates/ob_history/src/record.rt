@@ -1,8 +1,8 @@
 ghost use Rattle.std.specs.Prelude.{◌≡◌, ◌≤◌, false, length, IsOk, IfOk};
-ghost use Rattle.ob_types.specs.Block.{writes_block};
 ghost use Rattle.ob_types.specs.Limits.{inline_settlements};
+ghost use Rattle.ob_types.specs.Traits.{writes_block};
 ghost use Rattle.ob_seq.specs.Pending.{settled_by};
-ghost use Rattle.ob_history.specs.Receipt.{receipt_of};
+ghost use Rattle.ob_history.specs.Receipts.{receipt_of};
 
 use crate::answer;
 use crate::receipt::{Receipt, copied};

@@ -1,7 +1,6 @@
 ghost use Rattle.std.specs.Prelude.{◌≡◌, ◌<◌, ◌≤◌};
 ghost use Rattle.ob_types.specs.Limits.{greatest_overhead, greatest_unknown};
-ghost use Rattle.ob_history.specs.Legal.{IsBufferOf, IsLegal};
-ghost use Rattle.ob_history.specs.History.{IsBounded, new_history, most_records};
+ghost use Rattle.ob_history.specs.History.{IsBufferOf, IsLegal, IsBounded, new_history, most_records};
 
 mod call;
 mod check;

@@ -6,7 +6,7 @@ ghost use Rattle.ob_history.specs.Worked.{SeenBeforeTheRemoval, Glances, Settled
 ghost use Rattle.ob_history.specs.Worked.{OwnReceipts, ExchangedReceipts, ForeignReceipts, AllHeld, OneHeldBack};
 ghost use Rattle.ob_history.specs.Worked.{CoveredCalls, LegalUnderNewMarks, SeenUnderNewMarks};
 
-#[tactic(auto, unfolding(ob_seq::specs::Word::user_bits))]
+#[tactic(auto, unfolding(ob_seq::specs::State::user_bits))]
 fn worked_history()
     ensures legal { IsLegalWithARefusal }
     ensures accepted { AcceptedWithoutTheRefused }
@@ -15,7 +15,7 @@ fn worked_history()
     ensures another_reply { IllegalWithAnotherReply }
 {}
 
-#[tactic(auto, unfolding(ob_seq::specs::Word::user_bits))]
+#[tactic(auto, unfolding(ob_seq::specs::State::user_bits))]
 fn worked_calls()
     ensures last_place { LastPlace }
     ensures full { FullHistory }
@@ -25,7 +25,7 @@ fn worked_calls()
     ensures covered { CoveredCalls }
 {}
 
-#[tactic(auto, unfolding(ob_seq::specs::Word::user_bits))]
+#[tactic(auto, unfolding(ob_seq::specs::State::user_bits))]
 fn worked_marks()
     ensures legal { LegalUnderNewMarks }
     ensures seen { SeenUnderNewMarks }

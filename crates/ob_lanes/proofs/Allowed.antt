@@ -8,21 +8,19 @@ use Rattle.std.proofs.lemmas.Bool.{eqb-true, eqb-false}
 use Rattle.atomic_table.specs.Table.{Step, step, Allows}
 use Rattle.atomic_table.specs.declared.shared.Seat.{Seat}
 use prog.Atomic.{either}
-use Rattle.ob_types.specs.Packed.{total_half}
-use Rattle.ob_core.specs.Beginning.{Grant}
-use Rattle.ob_core.specs.Owed.{owed_by}
+use Rattle.ob_types.specs.Marks.{total_half, Marks}
+use Rattle.ob_core.specs.Accounts.{owed_by}
+use Rattle.ob_core.specs.World.{Grant}
 use Rattle.ob_core.proofs.FoundLemmas.{total_half-packed}
-use Rattle.ob_types.specs.WaterMark.{Marks}
 use Rattle.ob_core.specs.declared.lane_step.LaneStep.{LaneStep}
 use Rattle.ob_core.specs.declared.lane_step.LaneStep.TheVariants.{Add, Subtract, SetBit, ClearBit, Load}
 use Rattle.ob_core.proofs.AccountsLemmas.{owed_by-le-total, total-le-outside, shown-held}
 use Rattle.ob_core.proofs.BitLemmas.{or-is-with_bit, and-is-without_bit}
 use Rattle.ob_lanes.specs.Inside.{AreWords, words_of}
-use Rattle.ob_lanes.specs.Packed.{packed_after}
 use Rattle.ob_lanes.specs.Ruled.{Ruled}
 use Rattle.ob_lanes.specs.RunningLane.{WordsValue}
-use Rattle.ob_lanes.specs.Told.{Knows, MayMake, Told, ToldTry, ToldOfBit}
-use Rattle.ob_lanes.specs.Told.{IsCalm, Makes, MayExpect, PackedTold, MakesOrReads}
+use Rattle.ob_lanes.specs.Told.{packed_after, Knows, MayMake, Told, ToldTry, ToldOfBit, IsCalm, Makes, MayExpect}
+use Rattle.ob_lanes.specs.Told.{PackedTold, MakesOrReads}
 use Rattle.ob_lanes.specs.declared.facts.Facts.{Facts}
 use Rattle.ob_lanes.specs.declared.words.Words.TheInside.{Inside as WordsInside}
 use Rattle.ob_lanes.proofs.Calm.{clear_after_run, sum_calm, rest_calm}

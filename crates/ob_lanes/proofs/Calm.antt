@@ -4,21 +4,19 @@ use Rattle.std.proofs.Common.{◌≡◌, ℕ, List, [], ◌∷◌, ◌+◌, ◌-
 use Rattle.std.proofs.Common.{nat_lt, if◌then◌else◌, refl, sym, ap, ◌∙◌, arith}
 use Rattle.std.specs.Int.{bit_at}
 use Rattle.std.proofs.lemmas.Bool.Decides.{nat_tests}
-use Rattle.ob_types.specs.Packed.{packed, word_half, total_half}
-use Rattle.ob_types.specs.WaterMark.{Marks}
+use Rattle.ob_types.specs.Marks.{packed, word_half, total_half, Marks}
 use Rattle.ob_core.specs.Accounts.{AccountsHold}
-use Rattle.ob_core.specs.Beginning.{Grant, one_lane}
 use Rattle.ob_core.specs.Bits.{is_set, without_bit}
-use Rattle.ob_core.specs.CoreState.{CoreState}
-use Rattle.ob_core.specs.LaneStep.{total_after, raised_word, lowered_word, word_after, CanMake}
+use Rattle.ob_core.specs.Step.{total_after, raised_word, lowered_word, word_after, CanMake}
+use Rattle.ob_core.specs.World.{Grant, one_lane, CoreState}
 use Rattle.ob_core.specs.declared.lane.Lane.{Lane}
 use Rattle.ob_core.specs.declared.lane_step.LaneStep.{LaneStep}
 use Rattle.ob_core.specs.declared.lane_step.LaneStep.TheVariants.{Add, Subtract, SetBit, ClearBit, Load}
 use Rattle.ob_core.proofs.AccountsLemmas.{total-le-room}
 use Rattle.ob_core.proofs.BitLemmas.{SetsBit-with_bit, ClearsBit-without_bit}
 use Rattle.ob_core.proofs.StepLemmas.{is_held-above, zero-clear}
-use Rattle.ob_lanes.specs.Packed.{packed_after}
 use Rattle.ob_lanes.specs.Run.{IsMove, Leads}
+use Rattle.ob_lanes.specs.Told.{packed_after}
 use Rattle.ob_lanes.specs.declared.facts.Move.{Move}
 use Rattle.ob_lanes.specs.declared.facts.Move.TheVariants.{Steps, Divides, Merges}
 use Rattle.ob_lanes.proofs.KeptAccounts.{accounts_after_run}

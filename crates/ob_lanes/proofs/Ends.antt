@@ -3,16 +3,15 @@ use Rattle.std.proofs.Common.{◌≡◌, ℕ, ◌<◌, ◌≤◌, false, List, m
 use Rattle.std.specs.Int.{bit_at}
 use Rattle.std.specs.List.{slice_get}
 use Rattle.atomic_table.specs.declared.shared.Seat.{Seat}
-use Rattle.ob_types.specs.Packed.{word_half, total_half}
+use Rattle.ob_types.specs.Marks.{word_half, total_half}
 use Rattle.ob_core.specs.Bits.{is_set}
 use Rattle.ob_core.specs.declared.lane.Lane.{Lane}
-use Rattle.ob_core.specs.Beginning.{Grant}
+use Rattle.ob_core.specs.World.{Grant}
 use Rattle.ob_core.specs.Parts.{IsFree}
-use Rattle.ob_lanes.specs.InRun.{EndsRun, EndedAt, EndedIn}
+use Rattle.ob_lanes.specs.RunningLane.{EndsRun, EndedAt, EndedIn, RunningLane, ShowsHeld}
 use Rattle.ob_lanes.specs.Ruled.{HasEnded}
 use Rattle.std.proofs.lemmas.List.Elements.{All-weaker}
 use Rattle.ob_lanes.specs.Inside.{IsEnd}
-use Rattle.ob_lanes.specs.RunningLane.{RunningLane, ShowsHeld}
 use Rattle.ob_lanes.specs.declared.facts.Facts.{Facts}
 use Rattle.ob_core.proofs.AccountsLemmas.{shown-held}
 use Rattle.ob_core.proofs.EndLemmas.{nothing_left, mark_clear}

@@ -5,11 +5,10 @@ use Rattle.std.specs.Int.{bit_at}
 use Rattle.std.proofs.lemmas.Bool.{le-ltb}
 use Rattle.std.proofs.lemmas.Bool.Decides.{nat_tests}
 use Rattle.std.proofs.lemmas.Nat.Bits.{bit_at_and, bit_at_or, bit_at_xor, bit_at-lt}
-use Rattle.ob_core.specs.FirstFault.{first_fault}
+use Rattle.ob_core.specs.World.{first_fault}
 use Rattle.ob_core.specs.declared.lane.Lane.{Lane}
-use Rattle.ob_lanes.specs.Divided.{kept_lane, given_lane, both_lanes}
-use Rattle.ob_lanes.specs.Joined.{IsJoined}
-use Rattle.ob_lanes.specs.Split.{split_fault, are_held, IsSplit}
+use Rattle.ob_lanes.specs.Calls.{IsJoined, split_fault, are_held, IsSplit}
+use Rattle.ob_lanes.specs.Inside.{kept_lane, given_lane, both_lanes}
 use Rattle.ob_core.specs.Bits.{AreAmong, MakeUp}
 use Rattle.ob_core.specs.Parts.{IsFree, AreParts}
 use Rattle.ob_lanes.specs.declared.fault.SplitFault.TheVariants.{NoRoom, NotHeld}

@@ -16,9 +16,8 @@ use Rattle.ob_core.specs.Bits.{is_set}
 use Rattle.ob_core.proofs.LaneSums.{sum_by-le-each}
 use Rattle.ob_core.proofs.PartLemmas.{AccountsHold-division, AccountsHold-merger}
 use Rattle.ob_core.specs.Accounts.{AccountsHold}
-use Rattle.ob_core.specs.CoreState.{CoreState}
-use Rattle.ob_core.specs.CoreStep.{IsCoreStep}
-use Rattle.ob_core.specs.Beginning.{Grant, one_lane}
+use Rattle.ob_core.specs.World.{CoreState, Grant, one_lane}
+use Rattle.ob_core.specs.Step.{IsCoreStep}
 use Rattle.ob_core.specs.Parts.{IsDivision, IsMerger}
 use Rattle.ob_core.specs.declared.lane.Lane.{Lane}
 use Rattle.ob_core.specs.declared.lane_step.LaneStep.{LaneStep}

@@ -7,7 +7,7 @@ use Rattle.std.proofs.lemmas.Bool.Decides.{nat_tests}
 use Rattle.std.proofs.lemmas.Nat.{pow-add}
 use Rattle.std.proofs.lemmas.Nat.Bits.{bit_at-pow_same, bit_at-pow_other}
 use Rattle.std.specs.Int.{bit_at, bit_not, w64}
-use Rattle.ob_core.specs.AskFault.{is_held}
+use Rattle.ob_core.specs.Step.{is_held}
 use Rattle.ob_core.specs.declared.lane.Lane.{Lane}
 
 -- a lane holds bits of a word of 32 alone

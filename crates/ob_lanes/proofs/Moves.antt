@@ -9,23 +9,18 @@ use Rattle.std.proofs.lemmas.List.Elements.{All-set, All-weaker}
 use Rattle.std.proofs.lemmas.Option.{slice_get_within, get_or_from_slice_get}
 use Rattle.atomic_table.specs.Table.{State, Me, Act, keeps, Valid, stepped, carried_after}
 use Rattle.atomic_table.proofs.Lists.{set_here, set_else}
-use Rattle.ob_types.specs.Packed.{word_half, total_half}
+use Rattle.ob_types.specs.Marks.{word_half, total_half}
 use Rattle.ob_core.specs.Accounts.{AccountsHold}
-use Rattle.ob_core.specs.CoreState.{CoreState}
-use Rattle.ob_core.specs.CoreStep.{IsCoreStep, core_after_step}
-use Rattle.ob_core.specs.LaneStep.{CanMake, total_after, word_after}
-use Rattle.ob_core.specs.Beginning.{Grant}
+use Rattle.ob_core.specs.Step.{IsCoreStep, core_after_step, CanMake, total_after, word_after}
+use Rattle.ob_core.specs.World.{CoreState, Grant}
 use Rattle.ob_core.specs.declared.lane.Lane.{Lane}
 use Rattle.ob_core.specs.declared.lane_step.LaneStep.{LaneStep}
 use Rattle.ob_core.proofs.AccountsLemmas.{AccountsHold-step, total-le-room}
 use Rattle.ob_core.proofs.FoundLemmas.{word_half-packed, total_half-packed}
-use Rattle.ob_lanes.specs.Begins.{BeginsWithAll}
-use Rattle.ob_lanes.specs.Facts.{facts_after}
-use Rattle.ob_lanes.specs.InRun.{IsInRun}
-use Rattle.ob_lanes.specs.Packed.{packed_after}
 use Rattle.ob_lanes.specs.Ruled.{Ruled, HaveEnded, HasRun, core_of}
-use Rattle.ob_lanes.specs.Sees.{Sees}
-use Rattle.ob_lanes.specs.Told.{Told, PackedTold, FactsSee}
+use Rattle.ob_lanes.specs.Run.{BeginsWithAll, facts_after}
+use Rattle.ob_lanes.specs.RunningLane.{IsInRun, Sees}
+use Rattle.ob_lanes.specs.Told.{packed_after, Told, PackedTold, FactsSee}
 use Rattle.ob_lanes.specs.declared.facts.Facts.{Facts}
 use Rattle.ob_lanes.specs.declared.facts.Made.{Made}
 use Rattle.ob_lanes.specs.declared.facts.Move.{Move}

@@ -5,12 +5,11 @@ use Rattle.std.specs.Int.{bit_at, bit_not, w64}
 use Rattle.std.proofs.lemmas.Bool.Decides.{nat_tests}
 use Rattle.std.proofs.lemmas.Nat.{div-add-mod', pow-add}
 use Rattle.std.proofs.lemmas.Nat.Bits.{bit_at_cat_high}
-use Rattle.ob_types.specs.Packed.{packed, word_half, total_half}
+use Rattle.ob_types.specs.Marks.{packed, word_half, total_half, Marks}
 use Rattle.ob_core.specs.Bits.{is_set, with_bit, without_bit}
-use Rattle.ob_core.specs.LaneStep.{raised_word, lowered_word}
+use Rattle.ob_core.specs.Step.{raised_word, lowered_word}
 use Rattle.ob_core.proofs.BitLemmas.{pow-le-of_bit, or-is-with_bit, and-is-without_bit}
 use Rattle.ob_core.proofs.FoundLemmas.{word_half-packed, total_half-packed}
-use Rattle.ob_types.specs.WaterMark.{Marks}
 
 -- a number is that of its two halves
 pub halves_packed : (found : ℕ) → packed (word_half found) (total_half found) ≡ found

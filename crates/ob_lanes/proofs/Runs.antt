@@ -1,7 +1,7 @@
 -- Runs that begin with one another.
 use Rattle.std.proofs.Common.{◌≡◌, ◌⊎◌, inl, inr, List, [], ◌∷◌, ◌++◌, refl, sym, ap, ◌∙◌, append_assoc}
 use Rattle.std.proofs.lemmas.List.Elements.{All-weaker, All-cons, All-nil, All-head}
-use Rattle.ob_lanes.specs.Begins.{BeginsWith, BeginsWithAll}
+use Rattle.ob_lanes.specs.Run.{BeginsWith, BeginsWithAll}
 use Rattle.ob_lanes.specs.declared.facts.Move.{Move}
 
 -- a run begins with itself, and with what one begins with that it begins with

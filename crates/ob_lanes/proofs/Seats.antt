@@ -13,15 +13,13 @@ use Rattle.std.proofs.lemmas.Nat.Bits.{bit_at-lt}
 use Rattle.atomic_table.specs.Table.{Splits, Joins}
 use Rattle.atomic_table.proofs.Lists.{set_here, set_else, at_longer}
 use Rattle.ob_core.specs.declared.lane.Lane.{Lane}
-use Rattle.ob_lanes.specs.Begins.{BeginsWith, BeginsWithAll}
-use Rattle.ob_lanes.specs.Facts.{made_at}
-use Rattle.ob_lanes.specs.Divided.{kept_facts, given_facts, both_facts, spent_facts}
+use Rattle.ob_lanes.specs.Calls.{split_fault}
+use Rattle.ob_lanes.specs.Inside.{kept_facts, given_facts, both_facts, spent_facts}
 use Rattle.ob_lanes.specs.Ruled.{Ruled, HasEnded, HaveEnded, core_of}
-use Rattle.ob_lanes.specs.Run.{own_steps}
-use Rattle.ob_lanes.specs.Split.{split_fault}
+use Rattle.ob_lanes.specs.Run.{BeginsWith, BeginsWithAll, made_at, own_steps}
 use Rattle.ob_core.specs.Bits.{AreAmong}
-use Rattle.ob_core.specs.Beginning.{Grant}
 use Rattle.ob_core.specs.Parts.{IsFree, AreParts, IsDivision, IsMerger, spent_lane}
+use Rattle.ob_core.specs.World.{Grant}
 use Rattle.ob_lanes.specs.declared.facts.Ended.{Ended}
 use Rattle.ob_lanes.specs.declared.facts.Facts.{Facts}
 use Rattle.ob_lanes.specs.declared.facts.Move.{Move}

@@ -3,18 +3,17 @@ use Rattle.std.proofs.Common.{◌≡◌, ◌≢◌, ℕ, List, [], ◌++◌, ref
 use Rattle.std.proofs.lemmas.List.{append-nil}
 use Rattle.std.proofs.lemmas.List.Elements.{All-nil, All-cons, All-append}
 use Rattle.atomic_table.specs.declared.shared.Seat.{Seat}
-use Rattle.ob_types.specs.Packed.{total_half}
-use Rattle.ob_core.specs.Beginning.{Grant}
-use Rattle.ob_core.specs.LaneStep.{lane_after}
-use Rattle.ob_core.specs.Owed.{owed_by}
+use Rattle.ob_types.specs.Marks.{total_half}
+use Rattle.ob_core.specs.Accounts.{owed_by}
+use Rattle.ob_core.specs.Step.{lane_after}
+use Rattle.ob_core.specs.World.{Grant}
 use Rattle.ob_core.specs.declared.lane.Lane.{Lane}
 use Rattle.ob_core.specs.declared.lane_step.LaneStep.{LaneStep}
 use Rattle.ob_core.specs.declared.lane_step.LaneStep.TheVariants.{Load}
-use Rattle.ob_lanes.specs.Begins.{BeginsWithAll}
-use Rattle.ob_lanes.specs.Charge.{AreReads}
-use Rattle.ob_lanes.specs.Facts.{one_step}
+use Rattle.ob_lanes.specs.Calls.{AreReads}
+use Rattle.ob_lanes.specs.Inside.{KeepsRest, IsTrying, SeatTries, HasTried}
+use Rattle.ob_lanes.specs.Run.{BeginsWithAll, one_step}
 use Rattle.ob_lanes.specs.Told.{Knows, Told, ToldTry, MayExpect, Makes, MakesOrReads}
-use Rattle.ob_lanes.specs.Tried.{KeepsRest, IsTrying, SeatTries, HasTried}
 use Rattle.ob_lanes.specs.declared.facts.Facts.{Facts}
 use Rattle.ob_lanes.specs.declared.facts.Made.{Made}
 use Rattle.ob_lanes.specs.declared.facts.Move.{Move}

@@ -1,18 +1,15 @@
 -- The changes of a run take turns.
 use Rattle.std.proofs.Common.{◌≡◌, ℕ, ◌<◌, ◌^◌, Bool, true, false, List, [], ◌∷◌, refl, sym, ap, ◌∙◌, arith}
 use Rattle.std.specs.List.{cons_option}
-use Rattle.ob_types.specs.Change.{is_writable, turn, change_between}
+use Rattle.ob_types.specs.Marks.{is_writable, turn, change_between}
 use Rattle.ob_types.specs.declared.reply.Change.{Change}
 use Rattle.ob_core.specs.Bits.{is_set}
-use Rattle.ob_core.specs.CoreState.{CoreState}
-use Rattle.ob_core.specs.CoreStep.{IsCoreStep}
-use Rattle.ob_core.specs.Found.{change_found, value_found}
-use Rattle.ob_core.specs.Beginning.{Grant, one_lane}
+use Rattle.ob_core.specs.Step.{IsCoreStep, change_found, value_found}
+use Rattle.ob_core.specs.World.{CoreState, Grant, one_lane}
 use Rattle.ob_core.specs.declared.lane_step.LaneStep.{LaneStep}
 use Rattle.ob_core.proofs.AccountsLemmas.{total-le-room}
 use Rattle.ob_core.proofs.FoundLemmas.{change_found-between}
-use Rattle.ob_lanes.specs.Changes.{changes_of, writable_after, TakeTurns}
-use Rattle.ob_lanes.specs.Run.{Leads}
+use Rattle.ob_lanes.specs.Run.{changes_of, writable_after, TakeTurns, Leads}
 use Rattle.ob_lanes.specs.declared.facts.Move.{Move}
 use Rattle.ob_lanes.specs.declared.facts.Move.TheVariants.{Steps, Divides, Merges}
 use Rattle.ob_lanes.proofs.KeptAccounts.{accounts_after_run}

@@ -8,8 +8,8 @@ use lib.ListN.{get_elem?}
 use Rattle.std.specs.List.{All, AllPairs, slice_get}
 use Rattle.std.proofs.lemmas.List.Elements.{All-nil, All-append, All-head, All-tail, All-weaker}
 use Rattle.std.proofs.lemmas.List.Kept.{AllPairs-cons}
-use Rattle.ob_lanes.specs.Facts.{made_at}
 use Rattle.ob_lanes.specs.Ruled.{HasEnded, HaveEnded}
+use Rattle.ob_lanes.specs.Run.{made_at}
 use Rattle.ob_lanes.specs.declared.facts.Ended.{Ended}
 use Rattle.ob_lanes.specs.declared.facts.Facts.{Facts}
 use Rattle.ob_lanes.specs.declared.facts.Made.{Made}

@@ -1,9 +1,8 @@
 -- The runs of the worked rows, move by move.
 use Rattle.std.proofs.Common.{◌≡◌, ℕ, ◌<◌, ◌≤◌, List, [], ◌∷◌, ◌++◌, None, Some, refl, arith}
-use Rattle.ob_types.specs.Packed.{word_half, total_half}
-use Rattle.ob_core.specs.CoreState.{CoreState}
-use Rattle.ob_core.specs.CoreStep.{IsCoreStep}
-use Rattle.ob_core.specs.Beginning.{Grant, one_lane}
+use Rattle.ob_types.specs.Marks.{word_half, total_half}
+use Rattle.ob_core.specs.World.{CoreState, Grant, one_lane}
+use Rattle.ob_core.specs.Step.{IsCoreStep}
 use Rattle.ob_core.specs.declared.lane.Lane.{Lane}
 use Rattle.ob_core.specs.declared.lane_step.LaneStep.{LaneStep}
 use Rattle.ob_core.specs.declared.lane_step.LaneStep.TheVariants.{Add, SetBit, Load}
@@ -12,11 +11,8 @@ use Rattle.ob_core.specs.Parts.{AreParts, IsDivision, IsMerger, spent_lane}
 use Rattle.ob_core.specs.Worked.{free_lane}
 use Rattle.std.proofs.lemmas.List.Elements.{All-nil}
 use Rattle.std.proofs.lemmas.Nat.Bits.{bit_at-zero}
-use Rattle.ob_lanes.specs.Begins.{BeginsWith, BeginsWithAll}
-use Rattle.ob_lanes.specs.Facts.{one_step}
-use Rattle.ob_lanes.specs.InRun.{IsInRun}
-use Rattle.ob_lanes.specs.Run.{Leads}
-use Rattle.ob_lanes.specs.Sees.{Sees}
+use Rattle.ob_lanes.specs.Run.{BeginsWith, BeginsWithAll, one_step, Leads}
+use Rattle.ob_lanes.specs.RunningLane.{IsInRun, Sees}
 use Rattle.ob_lanes.specs.declared.facts.Made.{Made}
 use Rattle.ob_lanes.specs.declared.facts.Move.{Move}
 use Rattle.ob_lanes.specs.declared.facts.Move.TheVariants.{Steps}

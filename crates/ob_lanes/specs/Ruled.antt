@@ -3,14 +3,10 @@ use Rattle.std.specs.Prelude.{◌≡◌, ◌≢◌, ℕ, true, List, All, AllPai
 use mathlib.Core.Option.{some}
 use lib.ListN.{get_elem?}
 use Rattle.atomic_table.specs.Table.{State}
-use Rattle.ob_types.specs.Packed.{word_half, total_half}
+use Rattle.ob_types.specs.Marks.{word_half, total_half}
 use Rattle.ob_core.specs.Accounts.{AccountsHold}
-use Rattle.ob_core.specs.CoreState.{CoreState}
-use Rattle.ob_core.specs.Beginning.{Grant, one_lane}
-use Rattle.ob_lanes.specs.Begins.{BeginsWithAll}
-use Rattle.ob_lanes.specs.Facts.{made_at}
-use Rattle.ob_lanes.specs.Names.{names_in}
-use Rattle.ob_lanes.specs.Run.{Leads, own_steps}
+use Rattle.ob_core.specs.World.{CoreState, Grant, one_lane}
+use Rattle.ob_lanes.specs.Run.{BeginsWithAll, made_at, names_in, Leads, own_steps}
 use Rattle.ob_lanes.specs.declared.facts.Ended.{Ended}
 use Rattle.ob_lanes.specs.declared.facts.Facts.{Facts}
 use Rattle.ob_lanes.specs.declared.facts.Move.{Move}

@@ -1,13 +1,51 @@
--- The run: the moves that lead from the beginning of the one word to a state of it, and whose own steps they are.
-use Rattle.std.specs.Prelude.{◌≡◌, ◌==◌, ℕ, List, [], ◌∷◌, ◌++◌, if◌then◌else◌}
-use Rattle.ob_core.specs.CoreState.{CoreState}
-use Rattle.ob_core.specs.CoreStep.{IsCoreStep}
-use Rattle.ob_lanes.specs.Facts.{one_step}
-use Rattle.ob_core.specs.Found.{value_found}
+-- The run: the moves that lead from the beginning of the one word to a state of it, whose own steps they are, what all
+-- lanes report along it, and the facts of a seat, as its own steps change them.
+use Rattle.std.specs.List.{cons_option}
+use Rattle.std.specs.Prelude.{ℕ, zero, suc, false, List, [], ◌∷◌, ◌++◌, ◌≡◌, ◌==◌, if◌then◌else◌, All, Bool, true}
+use Rattle.ob_types.specs.Marks.{Marks}
+use Rattle.ob_types.specs.declared.reply.Change.{Change}
+use Rattle.ob_types.specs.declared.reply.Change.TheVariants.{Unwritable, Writable}
 use Rattle.ob_core.specs.Parts.{IsDivision, IsMerger}
+use Rattle.ob_core.specs.Step.{lane_after, IsCoreStep, value_found, change_found}
+use Rattle.ob_core.specs.World.{new_lane, Grant, CoreState}
+use Rattle.ob_core.specs.declared.lane.Lane.{Lane}
+use Rattle.ob_core.specs.declared.lane_step.LaneStep.{LaneStep}
+use Rattle.ob_lanes.specs.declared.facts.Facts.{Facts}
 use Rattle.ob_lanes.specs.declared.facts.Made.{Made}
 use Rattle.ob_lanes.specs.declared.facts.Move.{Move}
 use Rattle.ob_lanes.specs.declared.facts.Move.TheVariants.{Steps, Divides, Merges}
+
+-- the lane that the one word is opened with: it has the whole room and all bits
+abbrev pub first_lane : Grant → Lane
+first_lane grant = new_lane (record { room = grant.room; bits = grant.bits })
+
+-- what the first seat knows
+abbrev pub first_facts : Grant → Facts
+first_facts grant = record {
+  grant = grant;
+  lane = first_lane grant;
+  made = [];
+  seen = [];
+  name = [];
+  splits = 0;
+  taken = [];
+  spent = false;
+}
+
+-- one step that found this value
+abbrev pub one_step : LaneStep → ℕ → List Made
+one_step step found = (record { step = step; found = found }) ∷ []
+
+-- what a seat knows after a step of its own that found this value, once it has seen these runs
+abbrev pub facts_after : LaneStep → ℕ → List (List Move) → Facts → Facts
+facts_after step found seen facts =
+    record facts { lane = lane_after step facts.lane; made = facts.made ++ one_step step found; seen = seen }
+
+-- the own steps of the seat with this number, none if there is no such seat
+abbrev pub made_at : List Facts → ℕ → List Made
+made_at [] seat = []
+made_at (facts ∷ others) zero = facts.made
+made_at (facts ∷ others) (suc seat) = made_at others seat
 
 -- the move leads from the old core state to the new one
 abbrev pub IsMove : CoreState → Move → CoreState → Type 0
@@ -30,3 +68,40 @@ own_step seat (Merges first second both) = []
 abbrev pub own_steps : ℕ → List Move → List Made
 own_steps seat [] = []
 own_steps seat (move ∷ earlier) = own_steps seat earlier ++ own_step seat move
+
+-- the name of the lane in each place after these moves, the latest of which comes first: the first lane has the empty
+-- name, and a division puts the name of the new lane behind the others
+abbrev pub names_in : List Move → List (List ℕ)
+names_in [] = [] ∷ []
+names_in (Steps seat step found ∷ earlier) = names_in earlier
+names_in (Divides seat kept given name ∷ earlier) = names_in earlier ++ name ∷ []
+names_in (Merges seat other both ∷ earlier) = names_in earlier
+
+-- a run, the latest move of which comes first, begins with another: it has some moves more, after those
+pub record BeginsWith (run earlier : List Move) : Type 0 where
+  pub later : List Move
+  pub run_is : run ≡ later ++ earlier
+
+-- it begins with each of these runs
+abbrev pub BeginsWithAll : List Move → List (List Move) → Type 0
+BeginsWithAll run runs = All (λ earlier. BeginsWith run earlier) runs
+
+-- the changes of the steps of a run, each read off what the step found; the latest comes first, as in the run
+abbrev pub changes_of : Marks → List Move → List Change
+changes_of marks [] = []
+changes_of marks (Steps seat step found ∷ earlier) =
+    cons_option (change_found step marks found) (changes_of marks earlier)
+changes_of marks (Divides seat kept given name ∷ earlier) = changes_of marks earlier
+changes_of marks (Merges seat other both ∷ earlier) = changes_of marks earlier
+
+-- whether the writers may go on after these changes: at first they may
+abbrev pub writable_after : List Change → Bool
+writable_after [] = true
+writable_after (Unwritable ∷ earlier) = false
+writable_after (Writable ∷ earlier) = true
+
+-- the changes go to and fro, and the first is Unwritable
+abbrev pub TakeTurns : List Change → Type 0
+TakeTurns [] = Unit {0}
+TakeTurns (change ∷ earlier) =
+    (change ≡ (if writable_after earlier then Unwritable else Writable)) × TakeTurns earlier

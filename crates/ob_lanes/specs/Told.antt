@@ -1,17 +1,21 @@
--- What a step tells the lane that makes it.
-use Rattle.std.specs.Prelude.{false, ◌≡◌, ◌≢◌, ◌≤◌, ◌+◌, ◌-◌, ◌<◌, ℕ}
+-- What a step tells the lane that makes it, and the one word after it.
+use Rattle.std.specs.Prelude.{ℕ, false, ◌≡◌, ◌≢◌, ◌≤◌, ◌+◌, ◌-◌, ◌<◌}
 use Rattle.atomic_table.specs.Table.{Me, Step}
-use Rattle.ob_types.specs.Packed.{word_half, total_half}
-use Rattle.ob_core.specs.Beginning.{Grant}
-use Rattle.ob_core.specs.LaneStep.{CanMake}
-use Rattle.ob_core.specs.Owed.{owed_by}
+use Rattle.atomic_table.specs.declared.shared.Seat.{Seat}
+use Rattle.ob_types.specs.Marks.{packed, word_half, total_half, Marks}
+use Rattle.ob_core.specs.Accounts.{owed_by}
+use Rattle.ob_core.specs.Step.{total_after, word_after, CanMake}
+use Rattle.ob_core.specs.World.{Grant}
 use Rattle.ob_core.specs.declared.lane_step.LaneStep.{LaneStep}
 use Rattle.ob_core.specs.declared.lane_step.LaneStep.TheVariants.{Add, Subtract, Load}
-use Rattle.atomic_table.specs.declared.shared.Seat.{Seat}
-use Rattle.ob_lanes.specs.Facts.{facts_after}
-use Rattle.ob_lanes.specs.RunningLane.{WordsValue, ShowsHeld}
-use Rattle.ob_lanes.specs.Sees.{Sees}
+use Rattle.ob_lanes.specs.Run.{facts_after}
+use Rattle.ob_lanes.specs.RunningLane.{WordsValue, ShowsHeld, Sees}
 use Rattle.ob_lanes.specs.declared.facts.Facts.{Facts}
+
+-- both halves after a step that found this
+abbrev pub packed_after : LaneStep → Marks → ℕ → ℕ
+packed_after step marks found =
+    packed (word_after step marks (total_half found) (word_half found)) (total_after step (total_half found))
 
 -- what a seat knows, and the slots that it has
 abbrev pub Knows : Type 0

@@ -4,23 +4,14 @@ use mathlib.Core.Option.{none}
 use Rattle.atomic_table.specs.Seated.{TableId}
 use Rattle.atomic_table.specs.Table.{step}
 use Rattle.ob_types.specs.declared.reply.Change.TheVariants.{Unwritable, Writable}
-use Rattle.ob_core.specs.CoreState.{CoreState}
-use Rattle.ob_core.specs.Beginning.{Grant, one_lane}
 use Rattle.ob_core.specs.Worked.{free_lane}
+use Rattle.ob_core.specs.World.{CoreState, Grant, one_lane}
 use Rattle.ob_core.specs.declared.lane.Lane.{Lane}
 use Rattle.ob_core.specs.declared.lane_step.LaneStep.TheVariants.{Add, SetBit, Load}
-use Rattle.ob_lanes.specs.Begins.{BeginsWith}
-use Rattle.ob_lanes.specs.Bit.{IsBit}
-use Rattle.ob_lanes.specs.Changes.{changes_of, TakeTurns}
-use Rattle.ob_lanes.specs.Charge.{ChangesDebt, debt_of}
-use Rattle.ob_lanes.specs.Facts.{one_step}
-use Rattle.ob_lanes.specs.InRun.{IsInRun, EndedIn, EndsRun}
-use Rattle.ob_lanes.specs.Joined.{IsJoined}
-use Rattle.ob_lanes.specs.OwnSteps.{HasMade}
-use Rattle.ob_lanes.specs.Read.{IsTotalRead, IsWordRead}
-use Rattle.ob_lanes.specs.Run.{Leads, own_steps}
-use Rattle.ob_lanes.specs.RunningLane.{RunningLane, ShowsHeld}
-use Rattle.ob_lanes.specs.Split.{split_fault, IsSplit}
+use Rattle.ob_lanes.specs.Calls.{IsBit, ChangesDebt, debt_of, IsJoined, HasMade, IsTotalRead, IsWordRead, split_fault}
+use Rattle.ob_lanes.specs.Calls.{IsSplit}
+use Rattle.ob_lanes.specs.Run.{BeginsWith, changes_of, TakeTurns, one_step, Leads, own_steps}
+use Rattle.ob_lanes.specs.RunningLane.{IsInRun, EndedIn, EndsRun, RunningLane, ShowsHeld}
 use Rattle.ob_lanes.specs.Told.{Knows, ToldOfBit}
 use Rattle.ob_lanes.specs.declared.facts.Ended.{Ended}
 use Rattle.ob_lanes.specs.declared.facts.Made.{Made}

@@ -1,10 +1,9 @@
 //! The two halves of the one word, and what a charge and a discharge make of them.
 
 ghost use Rattle.std.specs.Prelude.{◌≡◌, ◌≤◌, ◌<◌, ◌+◌, ◌-◌};
-ghost use Rattle.ob_types.specs.Change.{change_between};
-ghost use Rattle.ob_types.specs.Packed.{packed, word_half, total_half};
+ghost use Rattle.ob_types.specs.Marks.{change_between, packed, word_half, total_half};
 ghost use Rattle.ob_core.specs.Bits.{with_bit, without_bit};
-ghost use Rattle.ob_core.specs.LaneStep.{raised_word, lowered_word};
+ghost use Rattle.ob_core.specs.Step.{raised_word, lowered_word};
 
 use ob_types::{Change, WaterMark, unpack};
 

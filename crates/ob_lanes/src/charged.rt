@@ -1,5 +1,5 @@
-ghost use Rattle.ob_lanes.specs.Charge.{debt_of};
-ghost use Rattle.ob_lanes.specs.Fields.{view_of, IsBetweenCalls};
+ghost use Rattle.ob_lanes.specs.Calls.{debt_of};
+ghost use Rattle.ob_lanes.specs.Inside.{view_of, IsBetweenCalls};
 ghost use Rattle.ob_lanes.specs.RunningLane.{RunningLane};
 
 mod discharge;

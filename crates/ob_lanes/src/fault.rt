@@ -28,7 +28,7 @@ pub enum SplitFault {
 
 impl SplitFault {
     ghost use Rattle.std.specs.Prelude.{◌≡◌};
-    ghost use Rattle.ob_lanes.specs.Split.{number_of};
+    ghost use Rattle.ob_lanes.specs.Calls.{number_of};
 
     /// The number of the fault, 1 or 2.
     pub fn number(self) -> u8

@@ -13,7 +13,7 @@ pub struct Grant {
 }
 
 impl Model for Grant {
-    ghost use Rattle.ob_core.specs.Beginning.{Grant as CoreGrant};
+    ghost use Rattle.ob_core.specs.World.{Grant as CoreGrant};
 
     ghost Value = { CoreGrant };
 

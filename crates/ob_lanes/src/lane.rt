@@ -24,7 +24,7 @@ impl Model for Lane {
     ghost Value = { RunningLane };
 
     ghost use Rattle.std.specs.Prelude.{None};
-    ghost use Rattle.ob_lanes.specs.Fields.{view_of, IsBetweenCalls};
+    ghost use Rattle.ob_lanes.specs.Inside.{view_of, IsBetweenCalls};
 
     ghost view = { λ lane. view_of lane.running };
 

@@ -1,11 +1,12 @@
 //! What holds of every run of the core that the calls on lanes speak of, and of every lane between two calls.
 
 ghost use Rattle.std.specs.Prelude.{◌≡◌, ◌<◌, ◌≤◌, ◌^◌, ◌⊎◌, ℕ, List, true, false};
-ghost use Rattle.ob_types.specs.Change.{is_writable};
-ghost use Rattle.ob_core.specs.Words.{AccountsHold, is_set, CoreState, Grant, one_lane, IsFree};
-ghost use Rattle.ob_lanes.specs.Begins.{BeginsWith};
-ghost use Rattle.ob_lanes.specs.Changes.{changes_of, writable_after, TakeTurns};
-ghost use Rattle.ob_lanes.specs.Run.{Leads};
+ghost use Rattle.ob_types.specs.Marks.{is_writable};
+ghost use Rattle.ob_core.specs.Accounts.{AccountsHold};
+ghost use Rattle.ob_core.specs.Bits.{is_set};
+ghost use Rattle.ob_core.specs.Parts.{IsFree};
+ghost use Rattle.ob_core.specs.World.{CoreState, Grant, one_lane};
+ghost use Rattle.ob_lanes.specs.Run.{BeginsWith, changes_of, writable_after, TakeTurns, Leads};
 ghost use Rattle.ob_lanes.specs.declared.facts.Move.{Move};
 
 use crate::charged::Charged;

@@ -1,6 +1,6 @@
 ghost use Rattle.std.specs.Prelude.{◌≡◌, false, [], IfOk, IsOkUnless};
 ghost use Rattle.ob_core.specs.Bits.{is_set};
-ghost use Rattle.ob_lanes.specs.Facts.{first_lane};
+ghost use Rattle.ob_lanes.specs.Run.{first_lane};
 
 use crate::grant::Grant;
 use crate::lane::Lane;

@@ -25,7 +25,7 @@ pub struct Divide<S> {
 }
 
 impl<S: Part> Split<Facts> for Divide<S> {
-    ghost use Rattle.ob_lanes.specs.Divided.{kept_facts, given_facts};
+    ghost use Rattle.ob_lanes.specs.Inside.{kept_facts, given_facts};
 
     ghost left = { kept_facts S.room S.bits };
 
@@ -40,7 +40,7 @@ pub trait Spent {
 }
 
 impl Spent for Brand {
-    ghost use Rattle.ob_lanes.specs.Divided.{no_facts};
+    ghost use Rattle.ob_lanes.specs.Inside.{no_facts};
 
     ghost facts = { no_facts };
 }
@@ -50,7 +50,7 @@ pub struct Merge<S> {
 }
 
 impl<S: Spent> Join<Facts> for Merge<S> {
-    ghost use Rattle.ob_lanes.specs.Divided.{both_facts, spent_facts};
+    ghost use Rattle.ob_lanes.specs.Inside.{both_facts, spent_facts};
 
     ghost both = { both_facts };
 

@@ -10,8 +10,8 @@ pub const BOTH: usize = 8;
 pub struct Rule;
 
 impl TableRule<(), Facts, Grant> for Rule {
-    ghost use Rattle.ob_lanes.specs.Facts.{first_facts};
     ghost use Rattle.ob_lanes.specs.Ruled.{Ruled};
+    ghost use Rattle.ob_lanes.specs.Run.{first_facts};
 
     ghost holds = { Ruled };
 

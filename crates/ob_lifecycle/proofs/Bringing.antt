@@ -9,8 +9,8 @@ use Rattle.ob_connection.specs.Connected.{Connected, StandsFor as ConnectionStan
 use Rattle.ob_connection.specs.Looks.{waiting_count_after}
 use Rattle.ob_connection.specs.Obeying.{Obeys}
 use Rattle.ob_lifecycle.specs.Counts.{most_told, none, tally_after, tally_by, written_of, Counts}
-use Rattle.ob_lifecycle.specs.Events.{Event, Accepted, Refused, commands_in, happens}
-use Rattle.ob_lifecycle.specs.Finish.{asks_for_the_end, is_finishing, is_over, was_over}
+use Rattle.ob_lifecycle.specs.Events.{Event, Accepted, Refused, commands_in, happens, asks_for_the_end, is_finishing}
+use Rattle.ob_lifecycle.specs.Events.{is_over, was_over}
 use Rattle.ob_lifecycle.specs.Managed.{Managed, StandsFor, StandsForSome, Brings, opened_as}
 use Rattle.std.specs.Prelude.{if◌then◌else◌, is_ok}
 use Rattle.ob_seq.specs.State.{empty_after}

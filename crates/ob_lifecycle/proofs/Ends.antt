@@ -17,10 +17,9 @@ use Rattle.ob_connection.specs.declared.connection.sending.SendFault.{SendFault}
 use Rattle.ob_connection.specs.declared.connection.sending.Sent.{Sent}
 use Rattle.ob_connection.specs.declared.replies.SentTurns.{SentTurns}
 use Rattle.ob_connection.specs.declared.replies.Taken.{Taken}
-use Rattle.ob_lifecycle.specs.Events.{Event, Accepted, Refused, Finishing, Ticked, Opened, commands_in}
-use Rattle.ob_lifecycle.specs.Finish.{is_finishing, is_over, was_over}
+use Rattle.ob_lifecycle.specs.Events.{Event, Accepted, Refused, Finishing, Ticked, Opened, commands_in, is_finishing}
+use Rattle.ob_lifecycle.specs.Events.{is_over, was_over, sending_happens, giving_up_happens}
 use Rattle.ob_lifecycle.specs.Managed.{Managed, StandsFor, StandsForSome, Brings, Gives, opened_as}
-use Rattle.ob_lifecycle.specs.Sendings.{sending_happens, giving_up_happens}
 use Rattle.std.specs.Prelude.{is_ok, if◌then◌else◌}
 use Rattle.ob_seq.specs.State.{empty_after}
 use Rattle.ob_lifecycle.specs.Stalls.{TookNothing, is_named, names_by, rested, told_time, ticked, watch_after, watched, watched_by}

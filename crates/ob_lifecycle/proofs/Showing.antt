@@ -3,7 +3,7 @@ use Rattle.std.proofs.Common.{◌≡◌, ◌+◌, ◌-◌, ◌≤◌, List, ap, 
 use Rattle.ob_lifecycle.specs.Counts.{ended_after, is_sent, pending_after}
 use Rattle.ob_lifecycle.specs.Events.{Event, commands_in}
 use Rattle.ob_lifecycle.specs.Managed.{Managed, StandsFor, opened_as}
-use Rattle.ob_lifecycle.specs.Numbers.{numbers_after}
+use Rattle.ob_lifecycle.specs.Strain.{numbers_after}
 use Rattle.ob_lifecycle.specs.declared.count.Count.{Count}
 use Rattle.ob_lifecycle.specs.declared.numbers.Numbers.{Numbers}
 use Rattle.ob_lifecycle.proofs.Balance.{bytes_balanced, messages_balanced}

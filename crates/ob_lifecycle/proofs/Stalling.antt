@@ -4,7 +4,7 @@ use Rattle.std.specs.Prelude.{Option, Some, None, if◌then◌else◌, nat_le, f
 use Rattle.std.proofs.lemmas.Bool.Decides.{nat_tests}
 use Rattle.std.proofs.lemmas.List.Elements.{filter_map-append}
 use Rattle.std.proofs.lemmas.List.Sums.{fold-append, sum_by-cons}
-use Rattle.ob_types.specs.Write.{is_write}
+use Rattle.ob_types.specs.Traits.{is_write}
 use Rattle.ob_types.specs.declared.command.Command.{Command}
 use Rattle.ob_seq.specs.State.{empty_after}
 use Rattle.ob_lifecycle.specs.Counts.{most_told}

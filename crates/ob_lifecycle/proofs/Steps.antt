@@ -3,8 +3,8 @@ use Rattle.std.proofs.Common.{◌≡◌, Bool, true, false, List, [], ◌∷◌,
 use Rattle.std.specs.List.{list_any}
 use Rattle.std.proofs.lemmas.List.Elements.{filter_map-append}
 use Rattle.std.proofs.lemmas.List.Folds.{list_any-append}
-use Rattle.ob_lifecycle.specs.Events.{Event, Opened, command_of, commands_in, along_from, along}
-use Rattle.ob_lifecycle.specs.Finish.{asks_for_the_end, is_finishing, is_over, is_over_by, was_over}
+use Rattle.ob_lifecycle.specs.Events.{Event, Opened, command_of, commands_in, along_from, along, asks_for_the_end}
+use Rattle.ob_lifecycle.specs.Events.{is_finishing, is_over, is_over_by, was_over}
 
 -- the commands of more events
 pub commands_more : (events more : List Event) → commands_in (events ++ more) ≡ commands_in events ++ commands_in more

@@ -4,8 +4,7 @@ use Rattle.std.specs.Prelude.{Result, Ok, Err, is_ok}
 use Rattle.std.specs.List.{list_any, take_while}
 use Rattle.std.proofs.lemmas.List.{reverse-append}
 use Rattle.std.proofs.lemmas.List.Sums.{fold-append, take_while-cons}
-use Rattle.ob_types.specs.Traits.{traits_of}
-use Rattle.ob_types.specs.Write.{is_write}
+use Rattle.ob_types.specs.Traits.{traits_of, is_write}
 use Rattle.ob_types.specs.declared.command.Command.{Command}
 use Rattle.ob_types.specs.declared.promise.PromiseState.{PromiseState}
 use Rattle.ob_types.specs.declared.refusal.Refusal.{Refusal}

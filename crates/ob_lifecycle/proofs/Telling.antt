@@ -1,8 +1,7 @@
 -- The end is told once, since it stays reached.
 use Rattle.std.proofs.Common.{◌≡◌, ℕ, ◌+◌, ◌≤◌, Bool, true, false, List, [], ◌∷◌, ◌++◌, ◌||◌, ◌&&◌, not, sym, refl, ap, ◌∙◌, append_assoc, append-nil, arith}
 use Rattle.std.specs.Prelude.{if◌then◌else◌}
-use Rattle.ob_lifecycle.specs.Events.{Event, Opened}
-use Rattle.ob_lifecycle.specs.Finish.{all_of, is_over, times_told, times_told_from, was_over}
+use Rattle.ob_lifecycle.specs.Events.{Event, Opened, all_of, is_over, times_told, times_told_from, was_over}
 use Rattle.ob_lifecycle.proofs.Steps.{by_events_from, over_more, over_seen}
 
 -- once reached, it stays so

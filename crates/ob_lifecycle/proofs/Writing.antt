@@ -14,11 +14,10 @@ use Rattle.ob_connection.specs.Connected.{Connected, StandsFor as ConnectionStan
 use Rattle.ob_connection.specs.Looks.{Refuses, waiting_count_after}
 use Rattle.ob_connection.specs.Obeying.{Accepts, Obeys, written_reply}
 use Rattle.ob_connection.specs.declared.replies.Written.{Written}
-use Rattle.ob_lifecycle.specs.Events.{Event, Accepted, Refused as WasRefused, commands_in}
-use Rattle.ob_lifecycle.specs.Finish.{is_finishing}
+use Rattle.ob_lifecycle.specs.Events.{Event, Accepted, Refused as WasRefused, commands_in, is_finishing}
 use Rattle.ob_lifecycle.specs.Inside.{FitsIn, HasRoom, own_fault, own_fault_by}
-use Rattle.ob_lifecycle.specs.Managed.{Managed, StandsFor, Brings, Gives, opened_as}
-use Rattle.ob_lifecycle.specs.Writes.{IsNotWritten, WritesTo, accepted, declined, fault_in, fault_of_write, write_happens}
+use Rattle.ob_lifecycle.specs.Managed.{Managed, StandsFor, Brings, Gives, opened_as, IsNotWritten, WritesTo, accepted}
+use Rattle.ob_lifecycle.specs.Managed.{declined, fault_in, fault_of_write, write_happens, StandsForSome}
 use Rattle.ob_lifecycle.specs.declared.fault.WriteFault.{WriteFault}
 use Rattle.ob_lifecycle.specs.declared.fault.WriteFault.TheVariants.{Refused, Finishing, Full}
 use Rattle.std.proofs.lemmas.Bool.Decides.{nat_tests}
@@ -26,7 +25,6 @@ use Rattle.ob_types.specs.declared.command.Command.{Command}
 use Rattle.ob_connection.specs.Looks.{Shows}
 use Rattle.ob_connection.specs.declared.look.Look.{Look}
 use Rattle.ob_lifecycle.specs.Counts.{is_untold, most_told, pending_after, tally_by, Counts}
-use Rattle.ob_lifecycle.specs.Managed.{StandsForSome}
 use Rattle.ob_lifecycle.specs.declared.count.Count.{Count}
 use Rattle.ob_lifecycle.specs.declared.tally.Tally.{Tally}
 use Rattle.ob_lifecycle.specs.Strain.{change_in, strained}

@@ -5,10 +5,9 @@ use Rattle.ob_types.specs.declared.message.Message.{Message}
 use Rattle.ob_seq.specs.State.{is_closed}
 use Rattle.ob_types.specs.declared.refusal.Refusal.TheVariants.{NoMemory}
 use Rattle.ob_lifecycle.specs.Counts.{most_told}
-use Rattle.ob_lifecycle.specs.Events.{Event, Opened, commands_in}
-use Rattle.ob_lifecycle.specs.Finish.{is_finishing}
-use Rattle.ob_lifecycle.specs.Managed.{Gives, Managed, StandsFor, opened_as}
-use Rattle.ob_lifecycle.specs.Writes.{IsNotWritten, fault_of_write, is_past_the_cap}
+use Rattle.ob_lifecycle.specs.Events.{Event, Opened, commands_in, is_finishing}
+use Rattle.ob_lifecycle.specs.Managed.{Gives, Managed, StandsFor, opened_as, IsNotWritten, fault_of_write}
+use Rattle.ob_lifecycle.specs.Managed.{is_past_the_cap}
 use Rattle.ob_lifecycle.specs.declared.fault.WriteFault.{WriteFault}
 use Rattle.ob_lifecycle.specs.declared.fault.WriteFault.TheVariants.{Refused, Finishing, Full}
 use Rattle.ob_lifecycle.specs.declared.managed.ManagedConnection.TheInside.{Inside}

@@ -1,11 +1,7 @@
-pub mod Events
-pub mod Finish
 pub mod Counts
-pub mod Strain
-pub mod Numbers
-pub mod Stalls
-pub mod Writes
-pub mod Sendings
-pub mod Managed
+pub mod Events
 pub mod Inside
+pub mod Managed
+pub mod Stalls
+pub mod Strain
 pub mod Worked

@@ -3,7 +3,7 @@ use Rattle.std.specs.Prelude.{ℕ, ◌+◌, ◌-◌, Bool, true, false, not, ◌
 use Rattle.ob_types.specs.declared.command.Command.{Command}
 use Rattle.ob_types.specs.declared.command.Command.TheVariants.{Write, Flush, Remove, RemoveWith, RemoveBytes, Progress}
 use Rattle.ob_types.specs.declared.command.Command.TheVariants.{Cancel, FailFlushed, Close, UserBit, SetMarks}
-use Rattle.ob_types.specs.Write.{is_write}
+use Rattle.ob_types.specs.Traits.{is_write}
 use Rattle.ob_seq.specs.State.{empty_after}
 use Rattle.ob_lifecycle.specs.Counts.{most_told}
 use Rattle.ob_lifecycle.specs.Events.{Event, Accepted, Refused, Finishing, Ticked, Opened, clock_after, commands_in}

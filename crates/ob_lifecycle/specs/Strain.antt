@@ -1,17 +1,23 @@
--- How often and for how long writers were stopped, and how often calls were refused, each read off all that happened.
-use Rattle.std.specs.Prelude.{ℕ, ◌+◌, ◌-◌, ◌==◌, Bool, true, false, not, ◌&&◌, List, [], ◌∷◌, ◌++◌, Option, Some, None, count_by, sum_by}
-use Rattle.std.specs.Prelude.{filter_map, min, if◌then◌else◌, Result, Ok, Err}
-use Rattle.ob_types.specs.Refusal.{number_of}
+-- How often and for how long writers were stopped, and how often calls were refused, each read off all that happened,
+-- and the numbers that a look shows.
+use Rattle.std.specs.Prelude.{ℕ, ◌+◌, ◌-◌, ◌==◌, Bool, true, false, not, ◌&&◌, List, [], ◌∷◌, ◌++◌, Option, Some, None}
+use Rattle.std.specs.Prelude.{count_by, sum_by, filter_map, min, if◌then◌else◌, Result, Ok, Err}
+use Rattle.ob_types.specs.Replies.{number_of}
 use Rattle.ob_types.specs.declared.refusal.Refusal.{Refusal}
-use Rattle.ob_types.specs.declared.refusal.Refusal.TheVariants.{Oversize, TooMuch, Closed, NothingFlushed, TooFar, TooManyBytes}
-use Rattle.ob_types.specs.declared.refusal.Refusal.TheVariants.{BadIndex, FlushedLeft, UnknownPromise, NoMemory}
+use Rattle.ob_types.specs.declared.refusal.Refusal.TheVariants.{Oversize, TooMuch, Closed, NothingFlushed, TooFar}
+use Rattle.ob_types.specs.declared.refusal.Refusal.TheVariants.{TooManyBytes, BadIndex, FlushedLeft, UnknownPromise}
+use Rattle.ob_types.specs.declared.refusal.Refusal.TheVariants.{NoMemory}
 use Rattle.ob_types.specs.declared.reply.Change.{Change}
 use Rattle.ob_types.specs.declared.reply.Change.TheVariants.{Unwritable, Writable}
 use Rattle.ob_seq.specs.State.{writable_after}
-use Rattle.ob_lifecycle.specs.Counts.{most_told}
-use Rattle.ob_lifecycle.specs.Events.{Event, Accepted, Refused, Finishing, Ticked, Opened, along, clock_after, commands_in}
+use Rattle.ob_lifecycle.specs.Counts.{most_told, accepted_after, ended_after, is_cancelled, is_failed, is_sent}
+use Rattle.ob_lifecycle.specs.Counts.{peak_after, pending_after, plus}
+use Rattle.ob_lifecycle.specs.Events.{Event, Accepted, Refused, Finishing, Ticked, Opened, along, clock_after}
+use Rattle.ob_lifecycle.specs.Events.{commands_in}
+use Rattle.ob_lifecycle.specs.declared.count.Count.{Count}
 use Rattle.ob_lifecycle.specs.declared.fault.WriteFault.{WriteFault}
 use Rattle.ob_lifecycle.specs.declared.fault.WriteFault.TheVariants.{Refused as Declined, Finishing as Ends, Full}
+use Rattle.ob_lifecycle.specs.declared.numbers.Numbers.{Numbers}
 use Rattle.ob_lifecycle.specs.declared.refusals.Refusals.{Refusals}
 use Rattle.ob_lifecycle.specs.declared.strain.Strain.{Strain}
 
@@ -130,3 +136,21 @@ change_in change why (Err refused) = Err (why refused)
 abbrev pub strained : Result (Option Change) WriteFault → Strain → Strain
 strained (Ok change) strain = record strain { stops = more_if (is_stop change) strain.stops }
 strained (Err fault) strain = record strain { refusals = refused_more fault strain.refusals }
+
+-- the numbers after events
+abbrev pub numbers_after : Opened → List Event → Numbers
+numbers_after opened events = record {
+  accepted = accepted_after opened events;
+  sent = ended_after is_sent opened events;
+  failed = ended_after is_failed opened events;
+  cancelled = ended_after is_cancelled opened events;
+  pending = pending_after opened.settings (commands_in events);
+  peak = peak_after opened events;
+  stops = stops_after opened events;
+  stopped = stopped_after opened events;
+  refusals = refusals_after events;
+}
+
+-- what was sent, failed, was cancelled and is pending, together
+abbrev pub all_told : Numbers → Count
+all_told numbers = plus (plus (plus numbers.sent numbers.failed) numbers.cancelled) numbers.pending

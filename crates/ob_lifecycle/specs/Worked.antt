@@ -4,10 +4,9 @@ use Rattle.ob_types.specs.declared.command.Command.TheVariants.{Write, Flush, Re
 use Rattle.ob_types.specs.declared.message.Message.TheVariants.{Block, Region}
 use Rattle.ob_types.specs.declared.refusal.Refusal.TheVariants.{Closed, Oversize}
 use Rattle.ob_lifecycle.specs.Events.{Event, Accepted, Refused as WasRefused, Finishing as Asked, Ticked, Opened}
-use Rattle.ob_lifecycle.specs.Finish.{finishes}
-use Rattle.ob_lifecycle.specs.Numbers.{numbers_after}
-use Rattle.ob_lifecycle.specs.Strain.{refusals_after, stopped_after, stops_after}
-use Rattle.ob_lifecycle.specs.Writes.{fault_of_write}
+use Rattle.ob_lifecycle.specs.Events.{finishes}
+use Rattle.ob_lifecycle.specs.Managed.{fault_of_write}
+use Rattle.ob_lifecycle.specs.Strain.{numbers_after, refusals_after, stopped_after, stops_after}
 use Rattle.ob_lifecycle.specs.declared.refusals.Refusals.{Refusals}
 use Rattle.ob_lifecycle.specs.declared.fault.WriteFault.TheVariants.{Refused, Finishing, Full}
 

@@ -23,7 +23,7 @@ fn worked_numbers()
     ensures refused_by_reason { RefusedByReason }
 {}
 
-#[tactic(auto, unfolding(ob_seq::specs::Word::user_bits))]
+#[tactic(auto, unfolding(ob_seq::specs::State::user_bits))]
 fn worked_stops()
     ensures { StoppedOnce }
 {}

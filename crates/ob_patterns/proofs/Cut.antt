@@ -7,7 +7,7 @@ use Rattle.std.specs.declared.io.Error.{Error}
 use Rattle.std.specs.Prelude.{◌==◌, ◌&&◌, Option, Some, None, slice_get, option_map, map, min, max, take, nat_lt}
 use Rattle.std.specs.List.{concat}
 use Rattle.std.proofs.lemmas.List.Sums.{take_while-cons}
-use Rattle.ob_types.specs.Block.{is_block}
+use Rattle.ob_types.specs.Traits.{is_block}
 use Rattle.ob_types.specs.declared.command.Command.{Command}
 use Rattle.ob_types.specs.declared.message.Message.{Message}
 use Rattle.ob_types.specs.declared.message.Message.TheVariants.{Block, Region, Other}

@@ -1,5 +1,4 @@
-pub mod Config
-pub mod DriveFault
-pub mod Planning
+pub mod Drive
+pub mod Inside
 pub mod Report
 pub mod Threads

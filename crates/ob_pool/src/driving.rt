@@ -5,11 +5,9 @@ ghost use Rattle.std.specs.Prelude.{IfErr, IfOk, IfSome, IsErrOf, IsSome};
 ghost use Rattle.ob_types.specs.declared.refusal.Refusal.{Refusal};
 ghost use Rattle.ob_types.specs.declared.refusal.Refusal.TheVariants.{HistoryFull};
 ghost use Rattle.ob_shared.specs.Opened.{IsNameOf};
-ghost use Rattle.ob_pool.specs.Config.{AreWithin, first_history};
-ghost use Rattle.ob_pool.specs.DriveFault.{ComesOfWork, NamesOneOf, number_of};
-ghost use Rattle.ob_pool.specs.Planning.Checked.{AreChecked};
-ghost use Rattle.ob_pool.specs.Planning.PlansFault.{plans_fault};
-ghost use Rattle.ob_pool.specs.Report.TellsOf.{TellsOf, TellsOfSink};
+ghost use Rattle.ob_pool.specs.Drive.{AreWithin, first_history, ComesOfWork, NamesOneOf, number_of, plans_fault};
+ghost use Rattle.ob_pool.specs.Inside.{AreChecked};
+ghost use Rattle.ob_pool.specs.Report.{TellsOf, TellsOfSink};
 ghost use Rattle.ob_pool.specs.declared.fault.DriveFault.TheVariants.{Refused};
 
 use crate::config::Config;

@@ -36,7 +36,7 @@ pub enum DriveFault {
 }
 
 impl DriveFault {
-    ghost use Rattle.ob_pool.specs.DriveFault.{number_of};
+    ghost use Rattle.ob_pool.specs.Drive.{number_of};
 
     /// The number of the fault, 1 to 8.
     pub fn number(self) -> u8

@@ -23,7 +23,7 @@ pub struct Plan {
 impl Model for Plan {
     ghost use Rattle.std.specs.Prelude.{List};
     ghost use Rattle.ob_types.specs.declared.command.Command.{Command};
-    ghost use Rattle.ob_pool.specs.Planning.Runs.{HasRuns, commands_of};
+    ghost use Rattle.ob_pool.specs.Inside.{HasRuns, commands_of};
 
     ghost Value = { List Command };
 
@@ -92,7 +92,7 @@ pub(crate) struct Rest {
 impl Model for Rest {
     ghost use Rattle.std.specs.Prelude.{List};
     ghost use Rattle.ob_types.specs.declared.command.Command.{Command};
-    ghost use Rattle.ob_pool.specs.Planning.Runs.{IsWithinRun, commands_from};
+    ghost use Rattle.ob_pool.specs.Inside.{IsWithinRun, commands_from};
 
     ghost Value = { List Command };
 

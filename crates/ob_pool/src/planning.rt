@@ -1,12 +1,10 @@
 //! What is wrong with plans, and the room that they need.
 
 ghost use Rattle.std.specs.Prelude.{◌≡◌, ◌<◌, ◌≤◌, length, IfErr, IfOk, IfSome, IsNone, Some};
-ghost use Rattle.ob_core.specs.Limits.{greatest_room, most_lanes};
-ghost use Rattle.ob_pool.specs.DriveFault.{NamesOneOf, number_of};
-ghost use Rattle.ob_pool.specs.Planning.Checked.{AreChecked, HaveRooms};
-ghost use Rattle.ob_pool.specs.Planning.HandOff.{charge_for, charge_of, room_of, rooms_of};
-ghost use Rattle.ob_pool.specs.Planning.Plan.{bad_step, is_planned};
-ghost use Rattle.ob_pool.specs.Planning.PlansFault.{bad_plan_from, plans_fault};
+ghost use Rattle.ob_core.specs.World.{greatest_room, most_lanes};
+ghost use Rattle.ob_pool.specs.Drive.{NamesOneOf, number_of, charge_for, charge_of, room_of, rooms_of, bad_step};
+ghost use Rattle.ob_pool.specs.Drive.{is_planned, bad_plan_from, plans_fault};
+ghost use Rattle.ob_pool.specs.Inside.{AreChecked, HaveRooms};
 
 use crate::fault::DriveFault;
 use crate::plan::Plan;
@@ -114,7 +112,7 @@ pub struct CheckedPlans {
 }
 
 impl Model for CheckedPlans {
-    ghost use Rattle.ob_pool.specs.Planning.Checked.{Checked};
+    ghost use Rattle.ob_pool.specs.Inside.{Checked};
 
     ghost Value = { Checked };
 

@@ -8,10 +8,9 @@ mod transport;
 
 ghost use Rattle.std.specs.Prelude.{◌≡◌, ℕ, Ok, IfErr, IfOk, IfSome, IsSome, IsSomeAnd};
 ghost use Rattle.std.specs.Thread.{IsSync};
-ghost use Rattle.ob_transport.specs.MayOffer.{MayOffer};
-ghost use Rattle.ob_pool.specs.DriveFault.{ComesOfWork};
-ghost use Rattle.ob_pool.specs.Threads.Job.{AreDone, IsBack, JobsHaveEnded, MayBegin};
-ghost use Rattle.ob_pool.specs.Threads.Sending.{HasTransported};
+ghost use Rattle.ob_transport.specs.Pass.{MayOffer};
+ghost use Rattle.ob_pool.specs.Drive.{ComesOfWork};
+ghost use Rattle.ob_pool.specs.Threads.{AreDone, IsBack, JobsHaveEnded, MayBegin, HasTransported};
 
 use crate::fault::DriveFault;
 use crate::gate::Gate;

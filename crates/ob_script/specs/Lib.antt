@@ -1,3 +1,3 @@
-pub mod Outcome
+pub mod Inside
 pub mod Reading
 pub mod Tracing

@@ -17,12 +17,10 @@ pub use Rattle.std.proofs.lemmas.List.Elements.{filter-append, filter_map-append
 pub use Rattle.std.proofs.lemmas.List.Sums.{sum_by-append, sum_by-cons, sum_by_push, take_while-cons}
 pub use Rattle.std.proofs.lemmas.Nat.Bits.{bit_at_lowest, bit_at-suc, bit_at-zero, bit_at_or, same_from_bits}
 pub use Rattle.std.proofs.lemmas.Option.{slice_get_past, slice_get-map}
-pub use Rattle.ob_types.specs.Block.{is_block}
-pub use Rattle.ob_types.specs.Change.{change_between}
+pub use Rattle.ob_types.specs.Marks.{change_between, Marks}
 pub use Rattle.ob_types.specs.PendingSize.{counted_bytes}
-pub use Rattle.ob_types.specs.Waiting.{is_waiting}
-pub use Rattle.ob_types.specs.WaterMark.{Marks}
-pub use Rattle.ob_types.specs.Write.{is_write}
+pub use Rattle.ob_types.specs.Replies.{is_waiting}
+pub use Rattle.ob_types.specs.Traits.{is_block, is_write}
 pub use Rattle.ob_types.specs.declared.command.Command.{Command}
 pub use Rattle.ob_types.specs.declared.command.Command.TheVariants.{Close, Write, RemoveBytes, Remove, RemoveWith}
 pub use Rattle.ob_types.specs.declared.command.Command.TheVariants.{Progress, UserBit, Flush, FailFlushed, Cancel, SetMarks}
@@ -46,25 +44,24 @@ pub use Rattle.ob_seq.specs.Effect.{block_bytes, blocks_in_front, byte_run, whol
 pub use Rattle.ob_seq.specs.Effect.{rows_after, reached_row, cancelled, closed_row, taken_row, with_front, with_first}
 pub use Rattle.ob_seq.specs.Effect.{with_skipped, progressed_row, with_first_behind, failed, flushed_row, failed_row}
 pub use Rattle.ob_seq.specs.Effect.{skipped_row, with_cancelled, bytes_in, pieces_within}
-pub use Rattle.ob_seq.specs.State.{is_close, is_closed, writes_in}
+pub use Rattle.ob_seq.specs.Inside.{IsSound, unsent_of, counted, none_taken_back}
 pub use Rattle.ob_seq.specs.Looks.{entry_of, PendingEntry, blocks_left, messages_to_send, with_bytes, first_blocks}
 pub use Rattle.ob_seq.specs.Looks.{promise_after, front_promise_after}
 pub use Rattle.ob_seq.specs.Pending.{Leaves, Pending, StandsFor, settled_along, settled_by, SparesMemory}
-pub use Rattle.ob_seq.specs.Inside.{IsSound, unsent_of, counted, none_taken_back}
-pub use Rattle.ob_seq.specs.Unsent.{pending_entry, pending_entries, unreached_entry, fixed_state, waiting_state, whole}
-pub use Rattle.ob_seq.specs.Unsent.{Unsent, states_of, ended, waiting_count}
 pub use Rattle.ob_seq.specs.Rows.{is_in_line, line, unflushed, front, gone, is_gone, Row, is_cancelled, is_voided}
 pub use Rattle.ob_seq.specs.Rows.{new_row, unread_part, without_skipped, is_unflushed, Gone, Unflushed, Flushed, Voided}
 pub use Rattle.ob_seq.specs.Rows.{is_flushed, Settings, counted_size, total}
-pub use Rattle.ob_seq.specs.Mark.{mark_after, marks_after, marks_set_by, Moment, moments_of, moment_of, moments_along}
-pub use Rattle.ob_seq.specs.Steps.Step.{pending_total, first_size, unflushed_id, times, front_id, word_after_fall}
-pub use Rattle.ob_seq.specs.Steps.Step.{word_after_rise, sum_of, first_progress, first_changed, front_changed}
-pub use Rattle.ob_seq.specs.Steps.Step.{promise_set, settled_by_step}
+pub use Rattle.ob_seq.specs.State.{is_close, is_closed, writes_in, mark_after, marks_after, marks_set_by, Moment}
+pub use Rattle.ob_seq.specs.State.{moments_of, moment_of, moments_along, bit_request, user_bit, bit_value, word_after}
 pub use Rattle.ob_seq.specs.Steps.Commands.{reached_entry, next_flushed, flush_step, cut_of, bytes_reply}
 pub use Rattle.ob_seq.specs.Steps.Commands.{entry_settlements, entry_settlement, whole_cut, front_taken, write_step}
 pub use Rattle.ob_seq.specs.Steps.Commands.{progress_step, failures, closed_pending, closing_reply, failing_step}
 pub use Rattle.ob_seq.specs.Steps.Commands.{bit_step, marks_step, step_of}
-pub use Rattle.ob_seq.specs.Word.{bit_request, user_bit, bit_value, word_after}
+pub use Rattle.ob_seq.specs.Steps.Step.{pending_total, first_size, unflushed_id, times, front_id, word_after_fall}
+pub use Rattle.ob_seq.specs.Steps.Step.{word_after_rise, sum_of, first_progress, first_changed, front_changed}
+pub use Rattle.ob_seq.specs.Steps.Step.{promise_set, settled_by_step}
+pub use Rattle.ob_seq.specs.Unsent.{pending_entry, pending_entries, unreached_entry, fixed_state, waiting_state, whole}
+pub use Rattle.ob_seq.specs.Unsent.{Unsent, states_of, ended, waiting_count}
 pub use Rattle.ob_seq.specs.declared.contents.Contents.TheInside.{Inside}
 pub use Rattle.ob_seq.specs.declared.contents.cut.Cut.{Cut}
 pub use Rattle.ob_seq.specs.declared.entry.Entry.{Entry}

@@ -2,10 +2,10 @@
 use Rattle.std.specs.Prelude.{ℕ, suc, ◌+◌, ◌||◌, Bool, List, [], ◌∷◌, ◌++◌, length, nat_lt, nat_le, if◌then◌else◌}
 use Rattle.std.specs.Prelude.{is_some, is_ok, Option, Some, None, Result, Ok, Err, option_map, slice_get, true, false}
 use Rattle.std.specs.Prelude.{◌&&◌, fold}
-use Rattle.ob_types.specs.PendingSize.{counted_bytes, is_oversize}
-use Rattle.ob_types.specs.Change.{change_between}
 use Rattle.ob_types.specs.Limits.{greatest_progress, greatest_total, most_writes}
-use Rattle.ob_types.specs.Waiting.{is_waiting}
+use Rattle.ob_types.specs.Marks.{change_between}
+use Rattle.ob_types.specs.PendingSize.{counted_bytes, is_oversize}
+use Rattle.ob_types.specs.Replies.{is_waiting}
 use Rattle.ob_types.specs.declared.estimate.Estimate.{Estimate}
 use Rattle.ob_types.specs.declared.command.Command.{Command}
 use Rattle.ob_types.specs.declared.command.Command.TheVariants.{Write, Flush, Remove, RemoveWith, RemoveBytes, Progress}
@@ -20,10 +20,9 @@ use Rattle.ob_types.specs.declared.reply.Answer.TheVariants.{Id, Count, Yes, Don
 use Rattle.ob_types.specs.declared.refusal.Refusal.{Refusal}
 use Rattle.ob_types.specs.declared.refusal.Refusal.TheVariants.{Oversize, TooMuch, Closed, NothingFlushed, TooFar}
 use Rattle.ob_types.specs.declared.refusal.Refusal.TheVariants.{TooManyBytes, BadIndex, FlushedLeft, UnknownPromise}
-use Rattle.ob_seq.specs.Rows.{Settings, Row, front, line, unflushed, total}
 use Rattle.ob_seq.specs.Effect.{bytes_in, byte_run, whole_rows, effect, rows_after}
-use Rattle.ob_seq.specs.Word.{is_user_index, word_after}
-use Rattle.ob_seq.specs.State.{is_closed}
+use Rattle.ob_seq.specs.Rows.{Settings, Row, front, line, unflushed, total}
+use Rattle.ob_seq.specs.State.{is_user_index, word_after, is_closed}
 
 -- whether this many writes are all that a limit allows; without a limit they never are
 abbrev pub is_full : Option ℕ → ℕ → Bool

@@ -2,10 +2,10 @@
 use Rattle.std.specs.Prelude.{ℕ, suc, List, length, take, filter, fold, max, nat_le, sum_by, ◌-◌, [], map, ◌∷◌, ◌++◌}
 use Rattle.std.specs.Prelude.{if◌then◌else◌, zero, ◌+◌, min, nat_lt, Bool, ◌&&◌}
 use Rattle.std.specs.List.{range_with_len, take_while}
-use Rattle.ob_types.specs.Block.{is_block}
+use Rattle.ob_types.specs.Limits.{greatest_progress}
 use Rattle.ob_types.specs.declared.message.Message.{Message}
 use Rattle.ob_types.specs.declared.message.Message.TheVariants.{Block, Region, Other}
-use Rattle.ob_types.specs.Limits.{greatest_progress}
+use Rattle.ob_types.specs.Traits.{is_block}
 use Rattle.ob_types.specs.declared.estimate.Estimate.{Estimate}
 use Rattle.ob_types.specs.declared.command.Command.{Command}
 use Rattle.ob_types.specs.declared.command.Command.TheVariants.{Write, Flush, Remove, RemoveWith, RemoveBytes, Progress}

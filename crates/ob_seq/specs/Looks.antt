@@ -3,17 +3,15 @@ use Rattle.std.specs.Prelude.{ℕ, Bool, not, List, map, filter, take, length, m
 use Rattle.std.specs.Prelude.{if◌then◌else◌, Option, Some, None, option_map, position}
 use Rattle.ob_types.specs.declared.message.Message.{Message}
 use Rattle.ob_types.specs.declared.command.Command.{Command}
-use Rattle.ob_types.specs.Change.{is_writable}
 use Rattle.ob_types.specs.Limits.{greatest_total}
-use Rattle.ob_types.specs.WaterMark.{Marks}
+use Rattle.ob_types.specs.Marks.{is_writable, Marks}
 use Rattle.ob_types.specs.declared.promise.PromiseId.{PromiseId}
 use Rattle.ob_types.specs.declared.promise.PromiseState.{PromiseState}
 use Rattle.ob_seq.specs.Rows.{Row, unread_part, is_voided, counted_size, Settings, is_flushed, is_in_line, line, front}
 use Rattle.ob_seq.specs.Rows.{total}
 use Rattle.ob_seq.specs.Effect.{blocks_in_front, pieces_within, byte_run, rows_after}
 use Rattle.ob_seq.specs.declared.look.Look.{Look}
-use Rattle.ob_seq.specs.Mark.{marks_after}
-use Rattle.ob_seq.specs.Word.{word_after}
+use Rattle.ob_seq.specs.State.{marks_after, word_after}
 use Rattle.ob_seq.specs.Answer.{promise_at}
 
 -- what is left of a message, the bytes that it counts, its progress so far, and whether it was voided

@@ -1,7 +1,7 @@
 -- What a contract sees of a buffer, the history that it stands for, and what commands settle.
 use Rattle.std.specs.Prelude.{ℕ, Bool, List, ◌≡◌, map, true, not, [], Result, Option, IsErrOf, OnErr, ◌≤◌, ◌==◌, ◌∷◌}
 use Rattle.std.specs.Prelude.{◌++◌, count_by, length, Ok, Err}
-use Rattle.ob_types.specs.WaterMark.{Marks}
+use Rattle.ob_types.specs.Marks.{Marks}
 use Rattle.ob_types.specs.declared.promise.PromiseState.{PromiseState}
 use Rattle.ob_types.specs.declared.command.Command.{Command}
 use Rattle.ob_types.specs.Traits.{traits_of}
@@ -11,14 +11,12 @@ use Rattle.ob_types.specs.declared.refusal.Refusal.{Refusal}
 use Rattle.ob_types.specs.declared.refusal.Refusal.TheVariants.{NoMemory}
 use Rattle.ob_types.specs.Limits.{inline_settlements}
 use Rattle.ob_types.specs.declared.promise.Outcome.{Outcome}
-use Rattle.ob_seq.specs.Rows.{Settings, line, unflushed}
-use Rattle.ob_seq.specs.Looks.{PendingEntry, entry_of}
-use Rattle.ob_seq.specs.Mark.{marks_after}
-use Rattle.ob_seq.specs.Effect.{rows_after}
-use Rattle.ob_seq.specs.State.{is_closed}
-use Rattle.ob_seq.specs.Word.{word_after}
 use Rattle.ob_seq.specs.Answer.{answer_to, commands_with, is_accepted, are_accepted, answer_within, buffer_limit}
 use Rattle.ob_seq.specs.Answer.{commands_after_within}
+use Rattle.ob_seq.specs.Effect.{rows_after}
+use Rattle.ob_seq.specs.Looks.{PendingEntry, entry_of}
+use Rattle.ob_seq.specs.Rows.{Settings, line, unflushed}
+use Rattle.ob_seq.specs.State.{marks_after, is_closed, word_after}
 
 -- what a buffer holds: what it was opened with, the marks in force, the entries in line and those that no flush has
 -- reached, each oldest first, the state of each promise that it ever gave, the word, and whether it is closed

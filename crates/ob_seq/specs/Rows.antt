@@ -1,7 +1,7 @@
 -- What a buffer is opened with, and the rows: one for each accepted write, kept for ever.
 use Rattle.std.specs.Prelude.{ℕ, Bool, true, false, [], drop, if◌then◌else◌, ◌||◌, List, filter, find, Option, ◌≡◌}
 use Rattle.std.specs.Prelude.{◌++◌, ◌⊎◌, sum_by}
-use Rattle.ob_types.specs.WaterMark.{Marks}
+use Rattle.ob_types.specs.Marks.{Marks}
 use Rattle.ob_types.specs.declared.estimate.Estimate.{Estimate}
 use Rattle.ob_types.specs.PendingSize.{counted_bytes}
 use Rattle.ob_types.specs.declared.message.Message.{Message}

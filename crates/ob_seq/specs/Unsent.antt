@@ -1,7 +1,7 @@
 -- What waits to be sent, each message with its promise, and for how many messages the ring has room.
 use Rattle.std.specs.Prelude.{ℕ, ◌+◌, Bool, false, List, [], ◌++◌, length, map, if◌then◌else◌, ◌≡◌, ◌≤◌, true, max}
 use Rattle.std.specs.Prelude.{nat_lt}
-use Rattle.ob_types.specs.WaterMark.{Marks}
+use Rattle.ob_types.specs.Marks.{Marks}
 use Rattle.ob_types.specs.declared.promise.Outcome.{Outcome}
 use Rattle.ob_types.specs.declared.promise.Outcome.TheVariants.{Cancelled}
 use Rattle.ob_types.specs.declared.promise.PromiseState.{PromiseState}

@@ -20,11 +20,11 @@ use Rattle.ob_types.specs.declared.reply.Change.TheVariants.{Unwritable, Writabl
 use Rattle.ob_types.specs.declared.reply.Reply.{Reply}
 use Rattle.ob_types.specs.declared.promise.PromiseState.TheVariants.{Waiting, Fixed, Settled}
 use Rattle.ob_seq.specs.declared.look.Look.{Look}
-use Rattle.ob_seq.specs.Rows.{Settings, total}
-use Rattle.ob_seq.specs.Effect.{rows_after}
-use Rattle.ob_seq.specs.Word.{word_after}
 use Rattle.ob_seq.specs.Answer.{answer_to, commands_after}
+use Rattle.ob_seq.specs.Effect.{rows_after}
 use Rattle.ob_seq.specs.Looks.{look_after, flushed_after, gathered_after, current_after, promise_after}
+use Rattle.ob_seq.specs.Rows.{Settings, total}
+use Rattle.ob_seq.specs.State.{word_after}
 
 -- marks low and high, 96 bytes for each entry and 8 for an unknown message
 abbrev pub marked : ℕ → ℕ → Settings

@@ -10,15 +10,14 @@ use Rattle.ob_types.specs.declared.refusal.Refusal.TheVariants.{Closed}
 use Rattle.ob_types.specs.declared.reply.Answer.TheVariants.{Id, Count, Yes, Done}
 use Rattle.ob_types.specs.declared.reply.Change.TheVariants.{Unwritable, Writable}
 use Rattle.ob_types.specs.declared.promise.PromiseState.TheVariants.{Waiting, Settled}
-use Rattle.ob_seq.specs.Pending.{takes_no_memory, settled_along}
-use Rattle.ob_seq.specs.State.{writable_after, empty_after, closed_after, user_writable_after, writes_left_after}
-use Rattle.ob_seq.specs.State.{writes_in}
-use Rattle.ob_seq.specs.Worked.{block, marked, refused, replied, settles, shown, succeeds}
-use Rattle.ob_seq.specs.Looks.{before_writable, front_promise_after, look_after}
-use Rattle.ob_seq.specs.Mark.{marks_after}
 use Rattle.ob_seq.specs.Answer.{accepted_among}
 use Rattle.ob_seq.specs.Effect.{rows_after, taken_row, with_first}
+use Rattle.ob_seq.specs.Looks.{before_writable, front_promise_after, look_after}
+use Rattle.ob_seq.specs.Pending.{takes_no_memory, settled_along}
 use Rattle.ob_seq.specs.Rows.{FitsItsPlace, StandInOrder, Row, Place, Unflushed, Flushed, Voided, Gone}
+use Rattle.ob_seq.specs.State.{writable_after, empty_after, closed_after, user_writable_after, writes_left_after}
+use Rattle.ob_seq.specs.State.{writes_in, marks_after}
+use Rattle.ob_seq.specs.Worked.{block, marked, refused, replied, settles, shown, succeeds}
 
 -- two blocks that bring the pending bytes above the high mark
 abbrev pub above_high : List Command

@@ -1,6 +1,6 @@
 ghost use Rattle.std.specs.Prelude.{◌≡◌, ◌≤◌, false, [], List, IsTrue, IsErrOf};
 ghost use Rattle.ob_types.specs.Limits.{greatest_overhead, greatest_unknown};
-ghost use Rattle.ob_types.specs.Write.{is_write};
+ghost use Rattle.ob_types.specs.Traits.{is_write};
 ghost use Rattle.ob_types.specs.declared.command.Command.{Command};
 ghost use Rattle.ob_seq.specs.Kept.{pending_of, IsKept};
 ghost use Rattle.ob_seq.specs.Pending.{Pending, StandsFor, Obeys, takes_no_memory, SparesMemory};

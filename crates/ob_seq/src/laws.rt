@@ -5,7 +5,7 @@ ghost use Rattle.std.specs.Int.{bit_at};
 ghost use Rattle.std.specs.List.{All, Contains};
 ghost use Rattle.std.specs.Prelude.{◌≡◌, None, Some, ◌+◌, ◌-◌, ◌<◌, ◌≤◌, ◌↔◌, ℕ, List, [], ◌∷◌, ◌++◌, length, true};
 ghost use Rattle.ob_types.specs.Limits.{greatest_total, most_writes};
-ghost use Rattle.ob_types.specs.WaterMark.{Marks};
+ghost use Rattle.ob_types.specs.Marks.{Marks};
 ghost use Rattle.ob_types.specs.declared.command.Command.{Command};
 ghost use Rattle.ob_types.specs.declared.command.Command.TheVariants.{RemoveBytes, SetMarks};
 ghost use Rattle.ob_types.specs.declared.estimate.Estimate.{Estimate};
@@ -13,13 +13,11 @@ ghost use Rattle.ob_types.specs.declared.promise.Outcome.{Outcome};
 ghost use Rattle.ob_types.specs.declared.promise.PromiseId.{PromiseId};
 ghost use Rattle.ob_types.specs.declared.promise.PromiseState.TheVariants.{Settled};
 ghost use Rattle.ob_seq.specs.Answer.{accepted_among, is_accepted, are_accepted, commands_after};
-ghost use Rattle.ob_seq.specs.State.{is_closed, writes_in};
 ghost use Rattle.ob_seq.specs.Effect.{rows_after};
-ghost use Rattle.ob_seq.specs.Rows.{FitsItsPlace, StandInOrder, Settings, total};
 ghost use Rattle.ob_seq.specs.Looks.{before_unwritable, before_writable, look_after, promise_after};
-ghost use Rattle.ob_seq.specs.Mark.{mark_after, marks_after, marks_set_by};
 ghost use Rattle.ob_seq.specs.Pending.{settled_along, times_settled};
-ghost use Rattle.ob_seq.specs.Word.{user_bit, word_after};
+ghost use Rattle.ob_seq.specs.Rows.{FitsItsPlace, StandInOrder, Settings, total};
+ghost use Rattle.ob_seq.specs.State.{is_closed, writes_in, mark_after, marks_after, marks_set_by, user_bit, word_after};
 
 /// Whatever commands a new buffer is given, no promise is settled twice, and one that is settled keeps its outcome.
 pub fn no_promise_is_settled_twice()

@@ -18,7 +18,7 @@ ghost use Rattle.ob_seq.specs.WorkedState.{MarksSetUnderAUserBit, MarksSetAsThey
 ghost use Rattle.ob_seq.specs.WorkedState.{LooksUnderNewMarks, LastMarks, UnwritableByEither, EmptyWithoutALine};
 ghost use Rattle.ob_seq.specs.WorkedState.{ClosedByAClose, UserBitsTold, WritesLeft, WantsOfMemory};
 
-#[tactic(auto, unfolding(crate::specs::Word::user_bits))]
+#[tactic(auto, unfolding(crate::specs::State::user_bits))]
 fn worked_rows()
     ensures first_run { TheFirstRun }
     ensures equality_with_low { EqualityWithLow }
@@ -41,7 +41,7 @@ fn worked_rows()
     ensures closed_once { ClosedOnce }
 {}
 
-#[tactic(auto, unfolding(crate::specs::Word::user_bits))]
+#[tactic(auto, unfolding(crate::specs::State::user_bits))]
 fn worked_bytes()
     ensures two_skips { TwoSkips }
     ensures left_after_two_skips { LeftAfterTwoSkips }
@@ -53,7 +53,7 @@ fn worked_bytes()
     ensures region_in_front { RegionInFront }
 {}
 
-#[tactic(auto, unfolding(crate::specs::Word::user_bits))]
+#[tactic(auto, unfolding(crate::specs::State::user_bits))]
 fn worked_limits()
     ensures total_at_its_limit { TotalAtItsLimit }
     ensures look_at_the_limit { LookAtTheLimit }
@@ -61,7 +61,7 @@ fn worked_limits()
     ensures progress_at_its_top { ProgressAtItsTop }
 {}
 
-#[tactic(auto, unfolding(crate::specs::Word::user_bits))]
+#[tactic(auto, unfolding(crate::specs::State::user_bits))]
 fn worked_endings()
     ensures closed_past_a_voided { ClosedPastAVoided }
     ensures each_end { EachEnd }
@@ -70,7 +70,7 @@ fn worked_endings()
     ensures promises_before_an_end { PromisesBeforeAnEnd }
 {}
 
-#[tactic(auto, unfolding(crate::specs::Word::user_bits))]
+#[tactic(auto, unfolding(crate::specs::State::user_bits))]
 fn worked_looks()
     ensures writable_at_the_marks { WritableAtTheMarks }
     ensures unwritable_at_the_marks { UnwritableAtTheMarks }
@@ -83,7 +83,7 @@ fn worked_looks()
     ensures none_in_front_at_an_end { NoneInFrontAtAnEnd }
 {}
 
-#[tactic(auto, unfolding(crate::specs::Word::user_bits))]
+#[tactic(auto, unfolding(crate::specs::State::user_bits))]
 fn worked_marks()
     ensures marks_raised { MarksRaised }
     ensures marks_lowered { MarksLowered }
@@ -98,7 +98,7 @@ fn worked_marks()
     ensures last_marks { LastMarks }
 {}
 
-#[tactic(auto, unfolding(crate::specs::Word::user_bits))]
+#[tactic(auto, unfolding(crate::specs::State::user_bits))]
 fn worked_state()
     ensures unwritable_by_either { UnwritableByEither }
     ensures empty_without_a_line { EmptyWithoutALine }
@@ -108,7 +108,7 @@ fn worked_state()
     ensures wants_of_memory { WantsOfMemory }
 {}
 
-#[tactic(auto, unfolding(crate::specs::Word::user_bits))]
+#[tactic(auto, unfolding(crate::specs::State::user_bits))]
 fn worked_histories()
     ensures accepted_of_them { AcceptedOfThem }
     ensures four_writes { FourWrites }

@@ -3,7 +3,7 @@ use Rattle.std.proofs.Common.{◌≡◌, ℕ, false, List, [], ◌∷◌, ◌++�
 use Rattle.ob_types.specs.declared.command.Command.{Command}
 use Rattle.ob_history.specs.Call.{IsCall, is_full, next_record}
 use Rattle.ob_history.specs.History.{History}
-use Rattle.ob_history.specs.Receipt.{receipt_of}
+use Rattle.ob_history.specs.Receipts.{receipt_of}
 use Rattle.ob_history.specs.declared.receipt.Receipt.{Receipt}
 use Rattle.ob_history.proofs.Calls.{called_with_place}
 use Rattle.ob_shared.specs.Calls.{with_record_of}

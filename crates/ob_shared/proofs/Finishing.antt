@@ -9,9 +9,8 @@ use Rattle.std.proofs.lemmas.Option.{slice_get_read}
 use Rattle.std.proofs.lemmas.List.Elements.{All-take, All-map, All-head, All-tail}
 use Rattle.std.proofs.lemmas.List.Sums.{sum_by-cons}
 use Rattle.ob_seq.specs.Rows.{Settings}
-use Rattle.ob_history.specs.First.{IsFirstBreak}
-use Rattle.ob_history.specs.Own.{AreOwn, Holding}
-use Rattle.ob_history.specs.Receipt.{IsReceiptIn}
+use Rattle.ob_history.specs.History.{IsFirstBreak}
+use Rattle.ob_history.specs.Receipts.{AreOwn, Holding, IsReceiptIn}
 use Rattle.ob_history.specs.Seen.{IsSeenIn}
 use Rattle.ob_history.specs.declared.record.Record.{Record}
 use Rattle.ob_history.specs.declared.receipt.Receipt.{Receipt}

@@ -1,8 +1,8 @@
 -- What is known of a seat stays so.
 use Rattle.std.proofs.Common.{◌≡◌, ℕ, List, [], sym, ap, ◌∙◌, subst}
 use Rattle.atomic_table.specs.declared.shared.Seat.{Seat}
-use Rattle.ob_history.specs.Glance.{glance_after}
-use Rattle.ob_history.specs.Legal.{IsLegal}
+use Rattle.ob_history.specs.History.{IsLegal}
+use Rattle.ob_history.specs.Seen.{glance_after}
 use Rattle.ob_history.specs.declared.record.Record.{Record}
 use Rattle.ob_shared.specs.Opened.{Opened}
 use Rattle.ob_shared.specs.Published.{Knows, publishing, reading, HasPublished, IsReader}

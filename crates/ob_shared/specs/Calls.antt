@@ -4,21 +4,19 @@ use Rattle.std.specs.List.{All, Contains}
 use Rattle.ob_types.specs.declared.command.Command.{Command}
 use Rattle.ob_types.specs.declared.refusal.Refusal.{Refusal}
 use Rattle.ob_types.specs.declared.refusal.Refusal.TheVariants.{HistoryFull, NoMemory}
-use Rattle.ob_history.specs.Beginning.{IsBeginning}
+use Rattle.ob_history.specs.History.{IsBeginning, History, accepted_commands}
 use Rattle.ob_history.specs.Call.{is_full, next_record}
-use Rattle.ob_history.specs.History.{History}
-use Rattle.ob_history.specs.Receipt.{receipt_of, IsReceiptIn, record_of}
+use Rattle.ob_history.specs.Receipts.{receipt_of, IsReceiptIn, record_of}
 use Rattle.ob_history.specs.declared.record.Record.{Record}
 use Rattle.ob_shared.specs.Share.{Handed, one_more, ShareValue}
 use Rattle.ob_shared.specs.Opened.{Opened, IsAsOpened}
 use Rattle.ob_shared.specs.Sight.{sight_of}
-use Rattle.ob_types.specs.Block.{writes_block}
+use Rattle.ob_types.specs.Traits.{writes_block}
 use Rattle.ob_types.specs.declared.promise.Outcome.{Outcome}
 use Rattle.ob_types.specs.declared.promise.PromiseId.{PromiseId}
 use Rattle.ob_seq.specs.Pending.{settled_by}
 use Rattle.ob_seq.specs.State.{writes_in}
-use Rattle.ob_history.specs.Accepted.{accepted_commands}
-use Rattle.ob_history.specs.Settlements.{settlements_in, settles}
+use Rattle.ob_history.specs.Seen.{settlements_in, settles}
 use Rattle.ob_history.specs.declared.receipt.Receipt.{Receipt}
 use Rattle.ob_types.specs.declared.reply.Reply.{Reply}
 

@@ -2,14 +2,11 @@
 use Rattle.std.specs.Prelude.{◌≡◌, ℕ, ◌==◌, Bool, not, List, length, map, Option, option_map, Some, slice_get, ◌⊎◌}
 use Rattle.std.specs.List.{All, find}
 use Rattle.ob_seq.specs.Rows.{Settings}
-use Rattle.ob_history.specs.Own.{AreOwn, records_of}
-use Rattle.ob_history.specs.Receipt.{IsReceiptIn, record_of}
+use Rattle.ob_history.specs.Receipts.{AreOwn, records_of, IsReceiptIn, record_of}
 use Rattle.ob_history.specs.Seen.{IsSeenIn}
 use Rattle.ob_history.specs.declared.record.Record.{Record}
 use Rattle.ob_shared.specs.Share.{Handed}
-use Rattle.ob_history.specs.First.{IsFirstBreak}
-use Rattle.ob_history.specs.Beginning.{IsBeginning}
-use Rattle.ob_history.specs.History.{History}
+use Rattle.ob_history.specs.History.{IsFirstBreak, IsBeginning, History}
 use Rattle.ob_shared.specs.Opened.{Opened, IsAsOpened}
 use Rattle.ob_shared.specs.Sight.{sight_of}
 use Rattle.ob_shared.specs.declared.finish_fault.FinishFault.{FinishFault}

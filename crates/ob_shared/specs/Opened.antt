@@ -2,8 +2,7 @@
 use Rattle.std.specs.Prelude.{◌≡◌, ℕ, []}
 use Rattle.atomic_table.specs.Seated.{TableId}
 use Rattle.ob_seq.specs.Rows.{Settings}
-use Rattle.ob_history.specs.History.{History}
-use Rattle.ob_history.specs.Legal.{IsLegal}
+use Rattle.ob_history.specs.History.{History, IsLegal}
 
 -- what was opened: the number of the ledger that counts the calls, how many callers there are, the settings of the
 -- buffer, the most records that its history may hold, and which table has the published word

@@ -5,16 +5,15 @@ use mathlib.Core.Option.{some}
 use lib.ListN.{get_elem?}
 use Rattle.atomic_table.specs.Table.{State, Me}
 use Rattle.ob_seq.specs.Rows.{Settings}
-use Rattle.ob_history.specs.Beginning.{IsBeginning}
-use Rattle.ob_history.specs.Glance.{glance_after}
-use Rattle.ob_history.specs.Legal.{IsLegal}
+use Rattle.ob_history.specs.History.{IsBeginning, IsLegal}
+use Rattle.ob_history.specs.Seen.{glance_after}
 use Rattle.ob_history.specs.declared.record.Record.{Record}
 use Rattle.ob_shared.specs.Sight.{packed_glance}
 use Rattle.ob_shared.specs.declared.rule.View.{View}
 use Rattle.atomic_table.specs.declared.shared.Seat.{Seat}
 use Rattle.ob_shared.specs.Opened.{Opened}
 use Rattle.atomic_table.specs.Seated.{TableId}
-use Rattle.ob_types.specs.WaterMark.{Marks}
+use Rattle.ob_types.specs.Marks.{Marks}
 use Rattle.ob_types.specs.declared.estimate.Estimate.{Estimate}
 
 -- what the seat knows that publishes, which saw this, and took in a seat that had seen that

@@ -1,12 +1,10 @@
 -- What a reader of the published word has seen.
 use Rattle.std.specs.Prelude.{◌≡◌, ℕ, List, [], ◌∷◌, ◌++◌, length}
-use Rattle.ob_types.specs.Packed.{packed}
+use Rattle.ob_types.specs.Marks.{packed}
 use Rattle.ob_seq.specs.Looks.{look_after}
 use Rattle.ob_seq.specs.Rows.{Settings}
-use Rattle.ob_history.specs.Accepted.{accepted_commands}
-use Rattle.ob_history.specs.Beginning.{IsBeginning}
-use Rattle.ob_history.specs.Glance.{glance_after}
-use Rattle.ob_history.specs.Legal.{IsLegal}
+use Rattle.ob_history.specs.History.{accepted_commands, IsBeginning, IsLegal}
+use Rattle.ob_history.specs.Seen.{glance_after}
 use Rattle.ob_history.specs.declared.glance.Glance.{Glance}
 use Rattle.ob_history.specs.declared.record.Record.{Record}
 use Rattle.ob_history.specs.declared.seen.Seen.{Seen}

@@ -1,5 +1,5 @@
 ghost use Rattle.std.specs.Prelude.{◌≡◌, ◌<◌, ◌≤◌, [], IfOk, IsOkUnless, OnOk};
-ghost use Rattle.ob_history.specs.Glance.{glance_after};
+ghost use Rattle.ob_history.specs.Seen.{glance_after};
 ghost use Rattle.ob_shared.specs.Opened.{IsNameOf};
 ghost use Rattle.ob_shared.specs.Share.{new_shares};
 

@@ -1,5 +1,5 @@
 ghost use Rattle.std.specs.Prelude.{◌≡◌, false, []};
-ghost use Rattle.ob_history.specs.Legal.{IsLegal};
+ghost use Rattle.ob_history.specs.History.{IsLegal};
 ghost use Rattle.ob_shared.specs.Published.{IsReader};
 ghost use Rattle.ob_shared.specs.Sight.{IsRead, Sight, sight_of};
 

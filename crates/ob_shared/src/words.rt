@@ -1,7 +1,6 @@
 ghost use Rattle.std.specs.Prelude.{◌≡◌, true, false, []};
-ghost use Rattle.ob_history.specs.Beginning.{IsBeginning};
-ghost use Rattle.ob_history.specs.Glance.{glance_after};
-ghost use Rattle.ob_history.specs.Legal.{IsLegal};
+ghost use Rattle.ob_history.specs.History.{IsBeginning, IsLegal};
+ghost use Rattle.ob_history.specs.Seen.{glance_after};
 ghost use Rattle.ob_shared.specs.Published.{Reads, publishing, reading};
 ghost use Rattle.ob_shared.specs.Sight.{packed_glance, sight_of};
 

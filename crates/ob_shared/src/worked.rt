@@ -4,7 +4,7 @@ ghost use Rattle.ob_shared.specs.Worked.{BothComplete, ShareLeftOut, ReceiptLeft
 ghost use Rattle.ob_shared.specs.Worked.{BeginningSeen, ReadOfNothing};
 ghost use Rattle.ob_shared.specs.Worked.{ReceiptsExchanged, ToldBeforeSeen, LookIsForeign, Looks, PromiseTold};
 
-#[tactic(auto, unfolding(ob_seq::specs::Word::user_bits))]
+#[tactic(auto, unfolding(ob_seq::specs::State::user_bits))]
 fn worked_ends()
     ensures complete { BothComplete }
     ensures share { ShareLeftOut }
@@ -12,7 +12,7 @@ fn worked_ends()
     ensures looks { Looks }
 {}
 
-#[tactic(auto, unfolding(ob_seq::specs::Word::user_bits))]
+#[tactic(auto, unfolding(ob_seq::specs::State::user_bits))]
 fn worked_foreign_items()
     ensures command { CommandChanged }
     ensures exchanged { ReceiptsExchanged }
@@ -24,7 +24,7 @@ fn worked_promises()
     ensures { PromiseTold }
 {}
 
-#[tactic(auto, unfolding(ob_seq::specs::Word::user_bits))]
+#[tactic(auto, unfolding(ob_seq::specs::State::user_bits))]
 fn worked_reads()
     ensures begins { BeginningSeen }
     ensures reads { ReadOfNothing }

@@ -5,8 +5,7 @@ use Rattle.ob_types.specs.declared.refusal.Refusal.{Refusal}
 use Rattle.ob_history.specs.Call.{IsCall, IsRecording}
 use Rattle.ob_history.specs.History.{History}
 use Rattle.ob_history.specs.declared.receipt.Receipt.{Receipt}
-use Rattle.ob_transport.specs.Drains.{Drains}
-use Rattle.ob_transport.specs.Standing.{Standing}
+use Rattle.ob_transport.specs.Pass.{Drains, Standing}
 use Rattle.ob_transport.specs.declared.draining.Drained.{Drained}
 use Rattle.ob_transport.specs.declared.fault.PassFault.{PassFault}
 use Rattle.ob_transport.specs.declared.fault.PassFault.TheVariants.{Sink, HistoryFull, NoMemory, Unbooked}

@@ -3,7 +3,7 @@
 
 ghost use Rattle.std.specs.Prelude.{◌≡◌};
 ghost use Rattle.ob_shared.specs.Opened.{IsNameOf};
-ghost use Rattle.ob_transport.specs.Standing.{standing};
+ghost use Rattle.ob_transport.specs.Pass.{standing};
 ghost use Rattle.ob_shared_callers.specs.SendsOn.{SendsNext, SendsOn};
 
 use bytes::Bytes;

@@ -4,8 +4,7 @@ use Rattle.std.proofs.Common.{Option, Some, None, Result, Ok, Err, IsOk, OnOk, O
 use Rattle.std.proofs.lemmas.List.{append-nil}
 use Rattle.std.proofs.lemmas.List.Sums.{fold-append, sum_by_push}
 use Rattle.ob_types.specs.PendingSize.{counted_bytes}
-use Rattle.ob_types.specs.Traits.{traits_of}
-use Rattle.ob_types.specs.Write.{is_write}
+use Rattle.ob_types.specs.Traits.{traits_of, is_write}
 use Rattle.ob_types.specs.declared.command.Command.{Command}
 use Rattle.ob_types.specs.declared.command.Command.TheVariants.{Write, Flush, Remove, RemoveWith, RemoveBytes, Progress}
 use Rattle.ob_types.specs.declared.command.Command.TheVariants.{Cancel, FailFlushed, Close, UserBit, SetMarks}

@@ -9,7 +9,7 @@ use prog.Atomic.{either}
 use lib.ListN.{get_elem?}
 use Rattle.atomic_table.specs.Table.{Act, Allows, Splits, Joins, Valid, keeps, stepped, carried_after, opening}
 use Rattle.atomic_table.proofs.Lists.{at_longer, at_set, exchanged, set_else}
-use Rattle.ob_types.specs.Packed.{packed}
+use Rattle.ob_types.specs.Marks.{packed}
 use Rattle.ob_seq.proofs.Word.Marks.{word_at_start}
 use Rattle.ob_connection.specs.Connected.{StandsFor}
 use Rattle.ob_shared_connection.specs.Bells.{bell_word}

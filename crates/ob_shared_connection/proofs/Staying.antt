@@ -6,7 +6,7 @@ use Rattle.std.proofs.lemmas.List.Elements.{filter-append}
 use Rattle.std.proofs.lemmas.List.Sums.{fold-append, sum_by-append, take_while-cons}
 use Rattle.std.specs.List.{AllByRecursion, list_all, take_while}
 use Rattle.std.specs.Prelude.{nat_lt}
-use Rattle.ob_types.specs.Block.{is_block}
+use Rattle.ob_types.specs.Traits.{is_block}
 use Rattle.ob_types.specs.declared.command.Command.{Command}
 use Rattle.ob_types.specs.declared.command.Command.TheVariants.{Write, Flush, Remove, RemoveWith, RemoveBytes, Progress}
 use Rattle.ob_types.specs.declared.command.Command.TheVariants.{Cancel, FailFlushed, Close, UserBit, SetMarks}

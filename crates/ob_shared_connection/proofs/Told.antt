@@ -3,7 +3,7 @@ use Rattle.std.proofs.Common.{◌≡◌, ℕ, ◌<◌, ◌^◌, List, [], ◌∷
 use Rattle.std.proofs.lemmas.List.{append-nil}
 use Rattle.atomic_table.specs.Seated.{TableId}
 use Rattle.atomic_table.specs.Table.{rest}
-use Rattle.ob_types.specs.Packed.{packed}
+use Rattle.ob_types.specs.Marks.{packed}
 use Rattle.ob_types.specs.declared.command.Command.{Command}
 use Rattle.ob_connection.specs.Connected.{Connected, StandsFor}
 use Rattle.ob_covered.specs.Cover.{CoverValue}

@@ -1,9 +1,9 @@
 -- What is read without the lock.
 use Rattle.std.specs.Prelude.{◌≡◌, ℕ, true, List, [], ◌++◌}
-use Rattle.ob_types.specs.Packed.{packed}
+use Rattle.ob_types.specs.Marks.{packed}
 use Rattle.ob_seq.specs.Effect.{rows_after}
 use Rattle.ob_seq.specs.Rows.{Settings, total}
-use Rattle.ob_seq.specs.Word.{word_after}
+use Rattle.ob_seq.specs.State.{word_after}
 use Rattle.ob_connection.specs.Connected.{connection_accepts_all}
 use Rattle.ob_shared_connection.specs.Log.{commands_by, commands_of}
 use Rattle.ob_shared_connection.specs.Removals.{NoneRemoves}

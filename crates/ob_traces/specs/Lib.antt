@@ -1,3 +1,4 @@
 pub mod Draw
 pub mod Summary
+pub mod Telling
 pub mod Traces

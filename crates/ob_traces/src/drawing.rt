@@ -1,8 +1,8 @@
 //! The subcommand `draw`: a trace as a picture.
 
 ghost use Rattle.std.specs.Prelude.{◌≡◌};
-ghost use Rattle.ob_traces.specs.Draw.Picture.{TellsPicture};
-ghost use Rattle.ob_traces.specs.Traces.Telling.{TellsOfTrace};
+ghost use Rattle.ob_traces.specs.Draw.{TellsPicture};
+ghost use Rattle.ob_traces.specs.Telling.{TellsOfTrace};
 
 pub mod drawn;
 pub mod numbers;

@@ -1,7 +1,7 @@
 //! The subcommand `summary`: what a trace comes to.
 
-ghost use Rattle.ob_traces.specs.Summary.Text.{TellsSummary};
-ghost use Rattle.ob_traces.specs.Traces.Telling.{TellsOfTrace};
+ghost use Rattle.ob_traces.specs.Summary.{TellsSummary};
+ghost use Rattle.ob_traces.specs.Telling.{TellsOfTrace};
 
 pub mod count;
 pub mod make;

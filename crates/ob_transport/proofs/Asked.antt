@@ -6,11 +6,10 @@ use Rattle.ob_types.specs.declared.command.Command.{Command}
 use Rattle.ob_types.specs.declared.command.Command.TheVariants.{Remove}
 use Rattle.ob_types.specs.declared.message.Message.{Message}
 use Rattle.ob_types.specs.declared.message.Message.TheVariants.{Block, Region, Other}
-use Rattle.ob_transport.specs.Asking.{Asked, IsAskedOnce, StandsInFront, answer_told}
-use Rattle.ob_transport.specs.InFront.{current_in, gathered_in, progress_in}
-use Rattle.ob_transport.specs.Offer.{Clearing, IsOffered, Offer, Units, offer_at, offer_by}
-use Rattle.ob_transport.specs.Outcome.{Clears}
-use Rattle.ob_transport.specs.Standing.{Standing}
+use Rattle.ob_transport.specs.Inside.{Clearing, IsOffered, Offer, Units, offer_at, offer_by}
+use Rattle.ob_transport.specs.Pass.{Clears, Standing}
+use Rattle.ob_transport.specs.Sent.{current_in, gathered_in, progress_in}
+use Rattle.ob_transport.specs.Sink.{Asked, IsAskedOnce, StandsInFront, answer_told}
 use Rattle.ob_transport.specs.declared.fault.Pass.{Pass}
 use Rattle.ob_transport.specs.declared.fault.Pass.TheVariants.{Idle, Stalled, Cleared, Took}
 use Rattle.ob_transport.specs.declared.fault.PassFault.{PassFault}

@@ -11,13 +11,11 @@ use Rattle.ob_types.specs.declared.message.Message.TheVariants.{Block, Region, O
 use Rattle.ob_seq.specs.Answer.{are_accepted}
 use Rattle.ob_seq.specs.Pending.{Pending, StandsFor}
 use Rattle.ob_seq.specs.Rows.{Settings}
-use Rattle.ob_history.specs.Accepted.{accepted_commands}
-use Rattle.ob_history.specs.History.{LacksPlaces}
-use Rattle.ob_transport.specs.IsPass.{IsPass}
-use Rattle.ob_transport.specs.Offer.{Bytes, Clearing, Ends, HasBytes, Nothing, Offer, Units, offer_after, offer_at}
-use Rattle.ob_transport.specs.Offer.{offer_by}
-use Rattle.ob_transport.specs.InFront.{current_in, gathered_in, progress_in}
-use Rattle.ob_transport.specs.Standing.{Standing}
+use Rattle.ob_history.specs.History.{accepted_commands, LacksPlaces}
+use Rattle.ob_transport.specs.Inside.{Bytes, Clearing, Ends, HasBytes, Nothing, Offer, Units, offer_after, offer_at}
+use Rattle.ob_transport.specs.Inside.{offer_by}
+use Rattle.ob_transport.specs.Pass.{IsPass, Standing}
+use Rattle.ob_transport.specs.Sent.{current_in, gathered_in, progress_in}
 use Rattle.ob_transport.specs.declared.fault.Pass.{Pass}
 use Rattle.ob_transport.specs.declared.fault.Pass.TheVariants.{Idle}
 use Rattle.ob_transport.specs.declared.fault.PassFault.{PassFault}

@@ -16,19 +16,13 @@ use Rattle.ob_seq.specs.Effect.{bytes_in}
 use Rattle.ob_seq.specs.Rows.{front, is_in_line, line, Row, unread_part}
 use Rattle.ob_seq.specs.Looks.{progress_of}
 use Rattle.ob_seq.proofs.Inside.Gathered.{gathered_first, length_of_concat}
-use Rattle.ob_history.specs.Accepted.{accepted_commands}
 use Rattle.ob_history.specs.Call.{history_after, is_full}
-use Rattle.ob_history.specs.History.{History, LacksPlaces}
-use Rattle.ob_transport.specs.Content.{Content, with_more_bytes, with_more_units}
-use Rattle.ob_transport.specs.GrowAlike.{GrowAlike, GrowAlikeBut, IsBooked}
-use Rattle.ob_transport.specs.IsPass.{IsPass}
-use Rattle.ob_transport.specs.Outcome.{Clears, SendsBytes, SendsUnits, booked_units, ready}
-use Rattle.ob_transport.specs.SentBy.{front_bytes, units_at, unread_bytes}
-use Rattle.ob_transport.specs.SentBytes.{bytes_sent_by}
-use Rattle.ob_transport.specs.SentUnits.{units_sent_by}
-use Rattle.ob_transport.specs.InFront.{current_in, gathered_in, progress_in, rows_in, sent_bytes_in, sent_units_in}
-use Rattle.ob_transport.specs.InFront.{unread_in}
-use Rattle.ob_transport.specs.Standing.{Standing, standing}
+use Rattle.ob_history.specs.History.{accepted_commands, History, LacksPlaces}
+use Rattle.ob_transport.specs.Pass.{GrowAlike, GrowAlikeBut, IsBooked, IsPass, Clears, SendsBytes, SendsUnits}
+use Rattle.ob_transport.specs.Pass.{booked_units, ready, Standing, standing}
+use Rattle.ob_transport.specs.Sent.{front_bytes, units_at, unread_bytes, bytes_sent_by, units_sent_by, current_in}
+use Rattle.ob_transport.specs.Sent.{gathered_in, progress_in, rows_in, sent_bytes_in, sent_units_in, unread_in}
+use Rattle.ob_transport.specs.Sink.{Content, with_more_bytes, with_more_units}
 use Rattle.ob_transport.specs.declared.fault.Pass.{Pass}
 use Rattle.ob_transport.specs.declared.fault.Pass.TheVariants.{Idle, Stalled, Cleared, Took}
 use Rattle.ob_transport.specs.declared.fault.PassFault.{PassFault}

@@ -8,14 +8,10 @@ use Rattle.std.proofs.lemmas.Grind.{flat_map-append}
 use Rattle.std.proofs.lemmas.List.Sums.{sum_by-append, sum_by-cons}
 use Rattle.ob_seq.specs.Effect.{rows_after}
 use Rattle.ob_seq.specs.Rows.{Settings}
-use Rattle.ob_history.specs.Accepted.{accepted_commands}
-use Rattle.ob_history.specs.Legal.{IsLegal}
+use Rattle.ob_history.specs.History.{accepted_commands, IsLegal}
 use Rattle.ob_history.specs.declared.record.Record.{Record}
 use Rattle.ob_history.proofs.Histories.{accepted_with_one}
-use Rattle.ob_transport.specs.SentBy.{Sent, nothing, sent_by}
-use Rattle.ob_transport.specs.SentBytes.{sent_bytes}
-use Rattle.ob_transport.specs.SentIn.{sent_in}
-use Rattle.ob_transport.specs.SentUnits.{sent_units}
+use Rattle.ob_transport.specs.Sent.{Sent, nothing, sent_by, sent_bytes, sent_in, sent_units}
 use Rattle.ob_transport.proofs.Sent.{bytes_more, bytes_of, units_more, units_of}
 
 -- what stands behind others is found at their number

@@ -11,13 +11,10 @@ use Rattle.ob_types.specs.declared.refusal.Refusal.{Refusal}
 use Rattle.ob_seq.specs.Answer.{answer_to, commands_after, first_refusal, reply_of, unless_refused}
 use Rattle.ob_seq.specs.Effect.{effect, rows_after}
 use Rattle.ob_seq.specs.Rows.{Row, Settings}
-use Rattle.ob_history.specs.Accepted.{accepted_commands}
 use Rattle.ob_history.specs.Call.{history_after, is_full, next_record, with_record}
-use Rattle.ob_history.specs.History.{History}
+use Rattle.ob_history.specs.History.{accepted_commands, History}
 use Rattle.ob_history.proofs.Histories.{accepted_with_next}
-use Rattle.ob_transport.specs.SentBytes.{bytes_sent_by, sent_bytes}
-use Rattle.ob_transport.specs.SentUnits.{sent_units, units_sent_by}
-use Rattle.ob_transport.specs.Occasion.{Occasion, occasions_from}
+use Rattle.ob_transport.specs.Sent.{bytes_sent_by, sent_bytes, sent_units, units_sent_by, Occasion, occasions_from}
 
 abbrev pub bytes_at : Occasion → List ℕ
 bytes_at occasion = bytes_sent_by occasion.rows occasion.command

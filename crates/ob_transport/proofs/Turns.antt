@@ -1,11 +1,7 @@
 -- Several passes, one after another.
 use Rattle.std.proofs.Common.{◌≡◌, ℕ, ◌+◌, ◌++◌, sym, ap, ◌∙◌, subst, arith, append_assoc, add-one}
 use Rattle.std.specs.Prelude.{Ok, Err, Result}
-use Rattle.ob_transport.specs.Drains.{GoesOn, Passes}
-use Rattle.ob_transport.specs.GrowAlike.{GrowAlike, GrowAlikeBut, IsBooked}
-use Rattle.ob_transport.specs.IsAccounted.{IsAccounted}
-use Rattle.ob_transport.specs.IsPass.{IsPass}
-use Rattle.ob_transport.specs.Standing.{Standing}
+use Rattle.ob_transport.specs.Pass.{GoesOn, Passes, GrowAlike, GrowAlikeBut, IsBooked, IsAccounted, IsPass, Standing}
 use Rattle.ob_transport.specs.declared.draining.Drained.{Drained}
 use Rattle.ob_transport.specs.declared.fault.Pass.{Pass}
 use Rattle.ob_transport.specs.declared.fault.PassFault.{PassFault}

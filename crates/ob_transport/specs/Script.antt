@@ -1,7 +1,6 @@
 -- What a contract sees of a sink of a script.
 use Rattle.std.specs.Prelude.{◌≡◌, ◌+◌, ◌<◌, ◌-◌, ◌^◌, ℕ, List, [], ◌∷◌, drop, length, min, Result, Ok, Err, IsErrOf}
-use Rattle.ob_transport.specs.Asking.{Asked, OfBytes, OfUnits}
-use Rattle.ob_transport.specs.Content.{Content}
+use Rattle.ob_transport.specs.Sink.{Asked, OfBytes, OfUnits, Content}
 use Rattle.ob_transport.specs.declared.script.SinkStep.{SinkStep}
 use Rattle.ob_transport.specs.declared.script.SinkStep.TheVariants.{Take, Fail}
 use Rattle.ob_transport.specs.declared.sink.SinkFault.{SinkFault}

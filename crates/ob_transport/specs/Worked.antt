@@ -10,8 +10,7 @@ use Rattle.ob_types.specs.declared.reply.Reply.{Reply}
 use Rattle.ob_types.specs.declared.reply.Answer.TheVariants.{Done}
 use Rattle.ob_seq.specs.Rows.{Settings}
 use Rattle.ob_history.specs.declared.record.Record.{Record}
-use Rattle.ob_transport.specs.SentBytes.{sent_bytes}
-use Rattle.ob_transport.specs.SentUnits.{sent_units}
+use Rattle.ob_transport.specs.Sent.{sent_bytes, sent_units}
 
 -- Netty's marks and sizes
 abbrev pub settings : Settings

@@ -3,8 +3,8 @@
 ghost use Rattle.std.specs.Prelude.{◌≡◌, ◌++◌, List, ℕ, length, OnOk};
 ghost use Rattle.ob_types.specs.declared.command.Command.TheVariants.{RemoveBytes};
 ghost use Rattle.ob_history.specs.Call.{IsCall};
-ghost use Rattle.ob_transport.specs.Given.{Given, Readied};
-ghost use Rattle.ob_transport.specs.InFront.{sent_bytes_in, unread_in};
+ghost use Rattle.ob_transport.specs.Inside.{Given, Readied};
+ghost use Rattle.ob_transport.specs.Sent.{sent_bytes_in, unread_in};
 
 use crate::fault::PassFault;
 use ob_history::{Booked, Receipt};

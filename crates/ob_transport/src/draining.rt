@@ -1,9 +1,6 @@
 ghost use Rattle.std.specs.Prelude.{◌≡◌, None, IfOk};
-ghost use Rattle.ob_transport.specs.Drains.{Drains};
-ghost use Rattle.ob_transport.specs.InFront.{current_in};
-ghost use Rattle.ob_transport.specs.IsAccounted.{IsAccounted};
-ghost use Rattle.ob_transport.specs.MayOffer.{MayOffer};
-ghost use Rattle.ob_transport.specs.Standing.{standing};
+ghost use Rattle.ob_transport.specs.Pass.{Drains, IsAccounted, MayOffer, standing};
+ghost use Rattle.ob_transport.specs.Sent.{current_in};
 
 use crate::fault::{Pass, PassFault};
 use crate::limits::Limits;

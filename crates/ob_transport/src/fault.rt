@@ -39,7 +39,7 @@ pub enum PassFault {
 }
 
 impl PassFault {
-    ghost use Rattle.ob_transport.specs.PassFault.{number_of};
+    ghost use Rattle.ob_transport.specs.Pass.{number_of};
 
     /// The number of the fault, 1 to 4.
     pub fn number(self) -> u8
@@ -66,7 +66,7 @@ impl From<SinkFault> for PassFault {
 
 /// A call of a booked buffer is refused only as a full history or as out of memory.
 impl From<Refusal> for PassFault {
-    ghost use Rattle.ob_transport.specs.Refused.{fault_of};
+    ghost use Rattle.ob_transport.specs.Pass.{fault_of};
 
     ghost from_gives = { λ refusal given. given ≡ fault_of refusal };
 

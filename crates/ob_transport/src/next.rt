@@ -1,7 +1,7 @@
 ghost use Rattle.std.specs.Prelude.{◌≡◌, List, IfErr, IfOk, OnErr};
 ghost use Rattle.ob_types.specs.declared.command.Command.{Command};
 ghost use Rattle.ob_seq.specs.Pending.{StandsFor};
-ghost use Rattle.ob_transport.specs.Offer.{HasBytes, offer_after, offer_of};
+ghost use Rattle.ob_transport.specs.Inside.{HasBytes, offer_after, offer_of};
 
 use crate::limits::Limits;
 use bytes::Bytes;

@@ -1,9 +1,8 @@
 ghost use Rattle.std.specs.List.{concat};
 ghost use Rattle.std.specs.Prelude.{◌≡◌, ◌<◌, ◌≤◌, ◌+◌, ◌-◌, ◌^◌, ◌++◌, drop, length, min, take, IfErr, IfOk, IsErrOf, OnErr};
 ghost use Rattle.std.specs.Prelude.{OnOk, vec_len};
-ghost use Rattle.ob_transport.specs.Content.{with_failure, with_more_bytes, with_more_units};
-ghost use Rattle.ob_transport.specs.Asking.{OfBytes, OfUnits};
 ghost use Rattle.ob_transport.specs.Script.{Plays, new_script, next_step, with_step_used};
+ghost use Rattle.ob_transport.specs.Sink.{with_failure, with_more_bytes, with_more_units, OfBytes, OfUnits};
 
 use crate::sink::{Sink, SinkFault};
 use bytes::Bytes;
@@ -40,7 +39,7 @@ impl Model for ScriptSink {
 
     ghost Value = { Script };
 
-    ghost use Rattle.ob_transport.specs.InsideScript.{script_of};
+    ghost use Rattle.ob_transport.specs.Inside.{script_of};
 
     ghost view = { script_of };
 }

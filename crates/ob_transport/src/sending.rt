@@ -1,14 +1,9 @@
 ghost use Rattle.std.specs.List.{concat};
 ghost use Rattle.std.specs.Prelude.{◌≡◌, None, Ok};
-ghost use Rattle.ob_transport.specs.Asking.{IsAskedOnce, OfBytes, OfUnits, StandsInFront, answer_told};
-ghost use Rattle.ob_transport.specs.Content.{Content};
-ghost use Rattle.ob_transport.specs.InFront.{current_in};
-ghost use Rattle.ob_transport.specs.IsAccounted.{IsAccounted};
-ghost use Rattle.ob_transport.specs.IsPass.{IsPass};
-ghost use Rattle.ob_transport.specs.MayOffer.{MayOffer};
-ghost use Rattle.ob_transport.specs.Offer.{Ends, IsOffered, offer_of};
-ghost use Rattle.ob_transport.specs.Outcome.{Clears, SendsBytes, SendsUnits};
-ghost use Rattle.ob_transport.specs.Standing.{standing};
+ghost use Rattle.ob_transport.specs.Inside.{Ends, IsOffered, offer_of};
+ghost use Rattle.ob_transport.specs.Pass.{IsAccounted, IsPass, MayOffer, Clears, SendsBytes, SendsUnits, standing};
+ghost use Rattle.ob_transport.specs.Sent.{current_in};
+ghost use Rattle.ob_transport.specs.Sink.{IsAskedOnce, OfBytes, OfUnits, StandsInFront, answer_told, Content};
 ghost use Rattle.ob_transport.specs.declared.fault.Pass.TheVariants.{Idle};
 
 use crate::booking::{give, make_ready};

@@ -1,10 +1,5 @@
-pub mod Block
-pub mod Change
 pub mod Limits
-pub mod Packed
+pub mod Marks
 pub mod PendingSize
-pub mod Refusal
+pub mod Replies
 pub mod Traits
-pub mod Waiting
-pub mod WaterMark
-pub mod Write

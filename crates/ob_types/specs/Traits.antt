@@ -1,10 +1,12 @@
--- What each command is. All that is said of a command by its kind alone is read off this table.
-use Rattle.std.specs.Prelude.{ℕ, Bool, true, false, not, Option, Some, None}
+-- What each command is. All that is said of a command by its kind alone is read off this table. And which messages are
+-- blocks: a block shares its memory with its copies.
+use Rattle.std.specs.Prelude.{ℕ, Bool, true, false, not, Option, Some, None, is_some, option_map, unwrap_or}
+use Rattle.ob_types.specs.Marks.{Marks}
 use Rattle.ob_types.specs.declared.command.Command.{Command}
 use Rattle.ob_types.specs.declared.command.Command.TheVariants.{Write, Flush, Remove, RemoveWith, RemoveBytes, Progress}
 use Rattle.ob_types.specs.declared.command.Command.TheVariants.{Cancel, FailFlushed, Close, UserBit, SetMarks}
 use Rattle.ob_types.specs.declared.message.Message.{Message}
-use Rattle.ob_types.specs.WaterMark.{Marks}
+use Rattle.ob_types.specs.declared.message.Message.TheVariants.{Block, Region, Other}
 
 -- what is asked of a user bit: the index of the bit, and whether it is to be set
 pub record BitRequest : Type 0 where
@@ -58,3 +60,17 @@ traits_of (Close cause) = record plain { close = true; notice = false; wants_mem
 traits_of (UserBit index writable) =
     record plain { bit = Some (record { index = index; set = not writable }); planned = true }
 traits_of (SetMarks marks) = record plain { marks = Some marks; planned = true }
+
+-- whether a command is a write: it writes a message
+abbrev pub is_write : Command → Bool
+is_write command = is_some (traits_of command).message
+
+-- whether a message is a block
+abbrev pub is_block : Message → Bool
+is_block (Block bytes) = true
+is_block (Region units) = false
+is_block (Other value) = false
+
+-- whether a command writes a block
+abbrev pub writes_block : Command → Bool
+writes_block command = unwrap_or (option_map is_block (traits_of command).message) false

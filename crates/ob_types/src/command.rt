@@ -1,5 +1,5 @@
 ghost use Rattle.std.specs.Prelude.{◌≡◌, false, IsOk, IfOk};
-ghost use Rattle.ob_types.specs.Block.{writes_block};
+ghost use Rattle.ob_types.specs.Traits.{writes_block};
 
 use crate::message::Message;
 use crate::promise::{Cause, PromiseId};

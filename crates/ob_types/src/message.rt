@@ -1,5 +1,5 @@
 ghost use Rattle.std.specs.Prelude.{◌≡◌, false, IsOk, IfOk};
-ghost use Rattle.ob_types.specs.Block.{is_block};
+ghost use Rattle.ob_types.specs.Traits.{is_block};
 
 use bytes::Bytes;
 use std::alloc::AllocError;

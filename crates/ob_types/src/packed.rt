@@ -1,5 +1,5 @@
 ghost use Rattle.std.specs.Prelude.{◌≡◌, ◌<◌, ◌^◌, ℕ};
-ghost use Rattle.ob_types.specs.Packed.{packed};
+ghost use Rattle.ob_types.specs.Marks.{packed};
 
 /// How many numbers a half of 64 bits has.
 const HALF: u64 = 1 << 32;

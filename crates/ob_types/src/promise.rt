@@ -1,5 +1,5 @@
 ghost use Rattle.std.specs.Prelude.{◌≡◌};
-ghost use Rattle.ob_types.specs.Waiting.{is_waiting};
+ghost use Rattle.ob_types.specs.Replies.{is_waiting};
 
 /// Which accepted write of a buffer a promise belongs to: the first has 0, the next 1, and so on.
 #[derive(Clone, Copy, Debug, Default, PartialEq, Eq)]

@@ -45,7 +45,7 @@ pub enum Refusal {
 }
 
 impl Refusal {
-    ghost use Rattle.ob_types.specs.Refusal.{number_of};
+    ghost use Rattle.ob_types.specs.Replies.{number_of};
 
     /// The number of the refusal, 1 to 12, as traces print it.
     pub fn number(self) -> u8

@@ -1,6 +1,6 @@
 ghost use Rattle.std.specs.Prelude.{◌≡◌, ◌≤◌, ◌↔◌, length, IsOk, IfOk, IsTrue};
-ghost use Rattle.ob_types.specs.Change.{change_between};
 ghost use Rattle.ob_types.specs.Limits.{inline_settlements};
+ghost use Rattle.ob_types.specs.Marks.{change_between};
 
 use crate::promise::PromiseId;
 use crate::settlements::{Settlements, Spare};

@@ -1,6 +1,6 @@
 ghost use Rattle.std.specs.Prelude.{◌≡◌, ◌≤◌, IfOk};
 ghost use Rattle.ob_types.specs.Limits.{greatest_mark};
-ghost use Rattle.ob_types.specs.WaterMark.{water_mark_of};
+ghost use Rattle.ob_types.specs.Marks.{water_mark_of};
 
 use crate::refusal::Refusal;
 use std::marker::Model;
@@ -21,7 +21,7 @@ pub struct WaterMark {
 }
 
 impl Model for WaterMark {
-    ghost use Rattle.ob_types.specs.WaterMark.{Marks, AreMarks};
+    ghost use Rattle.ob_types.specs.Marks.{Marks, AreMarks};
 
     ghost Value = { Marks };
 

@@ -1,18 +1,15 @@
 ghost use Rattle.std.specs.List.{All};
 ghost use Rattle.std.specs.Prelude.{◌≡◌, ◌≢◌, ◌≤◌, ℕ, codes, false, length, IfSome, IfErr, IsErrOf, OnOk};
 ghost use Rattle.std.specs.Io.KnownBytes.{Appends, Keeps};
-ghost use Rattle.ob_history.specs.History.{most_records};
-ghost use Rattle.ob_history.specs.Legal.{IsLegal};
-ghost use Rattle.ob_cli.specs.Cli.Options.{first_history};
-ghost use Rattle.ob_cli.specs.Drive.Report.{WritesReport};
-ghost use Rattle.ob_cli.specs.Drive.Script.{drive_grammar, plans_of};
-ghost use Rattle.ob_script.specs.Reading.Script.{script_lines};
-ghost use Rattle.ob_script.specs.Tracing.Interprets.{GoesThrough};
-ghost use Rattle.ob_script.specs.Outcome.{WentThrough, fault_told};
+ghost use Rattle.ob_history.specs.History.{most_records, IsLegal};
+ghost use Rattle.ob_cli.specs.Run.{first_history};
+ghost use Rattle.ob_cli.specs.Drive.{WritesReport, drive_grammar, plans_of};
+ghost use Rattle.ob_script.specs.Reading.{script_lines};
+ghost use Rattle.ob_script.specs.Tracing.{GoesThrough, WentThrough, fault_told};
 ghost use Rattle.ob_cli.specs.Outcome.{OfScript, status_of};
 ghost use Rattle.ob_cli.specs.declared.request_fault.RequestFault.TheVariants.{Script};
-ghost use Rattle.ob_cli.specs.Cli.Request.{WritesRequested, requested_fault, requested_trace_of_first};
-ghost use Rattle.ob_cli.specs.Cli.Entry.{Leaves, status_after};
+ghost use Rattle.ob_cli.specs.Request.{WritesRequested, requested_fault, requested_trace_of_first};
+ghost use Rattle.ob_cli.specs.Entry.{Leaves, status_after};
 
 use crate::cli::command_line::request_of;
 use crate::cli::fault::EntryFault;

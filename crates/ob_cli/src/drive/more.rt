@@ -6,11 +6,10 @@ ghost use Rattle.ob_types.specs.declared.command.Command.{Command};
 ghost use Rattle.ob_seq.specs.Answer.{commands_after};
 ghost use Rattle.ob_seq.specs.Looks.{look_after};
 ghost use Rattle.ob_seq.specs.Pending.{StandsFor};
-ghost use Rattle.ob_history.specs.Legal.{IsLegal};
-ghost use Rattle.ob_history.specs.History.{most_records};
-ghost use Rattle.ob_cli.specs.Cli.Options.{first_history};
-ghost use Rattle.ob_cli.specs.Drive.More.{hint_text, lines_of, more_text, shown_with, time_text};
-ghost use Rattle.ob_traces.specs.Summary.Summarizes.{Summarizes};
+ghost use Rattle.ob_history.specs.History.{IsLegal, most_records};
+ghost use Rattle.ob_cli.specs.More.{hint_text, lines_of, more_text, shown_with, time_text};
+ghost use Rattle.ob_cli.specs.Run.{first_history};
+ghost use Rattle.ob_traces.specs.Summary.{Summarizes};
 
 use crate::cli::options::Options;
 use crate::drive::Driven;

@@ -2,7 +2,7 @@
 
 ghost use Rattle.ob_transport.specs.Script.{Plays};
 ghost use Rattle.std.specs.Prelude.{◌≡◌};
-ghost use Rattle.ob_cli.specs.Drive.Offers.{with_call, with_offer};
+ghost use Rattle.ob_cli.specs.More.{with_call, with_offer};
 
 use bytes::Bytes;
 use ob_transport::{ScriptSink, Sink, SinkFault};

@@ -1,5 +1,5 @@
 ghost use Rattle.std.specs.Prelude.{◌≡◌, ◌++◌, IfOk, OnOk};
-ghost use Rattle.ob_cli.specs.Drive.Script.{commands_of_action, plan_of, plans_in, writer_block, writers_in};
+ghost use Rattle.ob_cli.specs.Drive.{commands_of_action, plan_of, plans_in, writer_block, writers_in};
 
 use crate::drive::line::{WriterAction, WriterLine};
 use bytes::Bytes;

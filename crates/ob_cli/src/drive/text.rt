@@ -1,5 +1,5 @@
 ghost use Rattle.std.specs.Prelude.{◌≡◌, ◌++◌, OnOk, string_bytes};
-ghost use Rattle.ob_cli.specs.Drive.Text.{commands_text, hand_text, messages_text, report_text, settled_in};
+ghost use Rattle.ob_cli.specs.Drive.{commands_text, hand_text, messages_text, report_text, settled_in};
 
 use ob_pool::Report;
 use ob_script::push_number_line;

@@ -1,5 +1,5 @@
 ghost use Rattle.std.specs.Prelude.{◌≡◌};
-ghost use Rattle.ob_cli.specs.Drive.Table.{drive_table};
+ghost use Rattle.ob_cli.specs.Drive.{drive_table};
 
 use crate::drive::line::{DriveLine, WriterAction, WriterLine};
 use ob_script::{ANY_32, ANY_64, BIT_INDEX, BLOCK_BYTES, FLAG, FirstWord, MARK, Range};

@@ -1,7 +1,7 @@
 ghost use Rattle.std.specs.Prelude.{◌≡◌, ◌+◌, ◌%◌, map, IfOk};
 ghost use Rattle.std.specs.Option.{ForSome};
 ghost use Rattle.std.specs.List.{range_with_len};
-ghost use Rattle.ob_cli.specs.Run.Script.{block_bytes};
+ghost use Rattle.ob_cli.specs.Run.{block_bytes};
 
 use bytes::Bytes;
 use std::alloc::{AllocError, Global};

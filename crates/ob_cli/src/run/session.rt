@@ -1,11 +1,10 @@
 ghost use Rattle.std.specs.Prelude.{◌≡◌, true, not, ◌+◌, ◌++◌, ◌%◌, [], ◌∷◌, IsOk, IfOk, OnOk, string_bytes};
-ghost use Rattle.ob_history.specs.Accepted.{accepted_commands};
 ghost use Rattle.ob_history.specs.Call.{history_after, is_full};
+ghost use Rattle.ob_history.specs.History.{accepted_commands};
 ghost use Rattle.ob_history.specs.Seen.{seen_now};
-ghost use Rattle.ob_cli.specs.Cli.Options.{first_history};
+ghost use Rattle.ob_cli.specs.Run.{first_history, block_write, call_text, history_after_line, history_after_lines};
+ghost use Rattle.ob_cli.specs.Run.{line_trace, run_grammar, run_texts};
 ghost use Rattle.ob_seq.specs.State.{writes_in};
-ghost use Rattle.ob_cli.specs.Run.Script.{block_write, call_text, history_after_line, history_after_lines, line_trace};
-ghost use Rattle.ob_cli.specs.Run.Script.{run_grammar, run_texts};
 
 use crate::cli::options::Options;
 use crate::run::blocks::Blocks;

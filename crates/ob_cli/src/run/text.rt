@@ -1,8 +1,8 @@
 ghost use Rattle.std.specs.Prelude.{◌≡◌, ◌++◌, OnOk, Ok, Err, string_bytes};
 ghost use Rattle.std.specs.Fmt.{decimal};
 ghost use Rattle.std.specs.List.{flat_map};
-ghost use Rattle.ob_cli.specs.Run.Text.{answer_text, command_text, gathered_text, length_text, levels_text};
-ghost use Rattle.ob_cli.specs.Run.Text.{look_text, outcome_text, settlement_text};
+ghost use Rattle.ob_cli.specs.Run.{answer_text, command_text, gathered_text, length_text, levels_text, look_text};
+ghost use Rattle.ob_cli.specs.Run.{outcome_text, settlement_text};
 
 use bytes::Bytes;
 use ob_script::{push_change, push_number, push_words};

@@ -1,4 +1,4 @@
-ghost use Rattle.ob_cli.specs.Run.Table.{run_table};
+ghost use Rattle.ob_cli.specs.Run.{run_table};
 
 use crate::run::line::RunLine;
 use ob_script::{ANY_32, ANY_64, BIT_INDEX, BLOCK_BYTES, FLAG, FirstWord, MARK, Range};

@@ -1,11 +1,10 @@
 ghost use Rattle.std.specs.Prelude.{◌≡◌, ◌++◌, ◌||◌, [], ◌∷◌, None, Some, true, false, not, is_some, length};
 ghost use Rattle.std.specs.Prelude.{option_map, IfOk, OnOk, string_bytes};
 ghost use Rattle.std.specs.Option.{option_map_or};
-ghost use Rattle.ob_core.specs.Beginning.{new_core, start_fault};
 ghost use Rattle.ob_core.specs.Turn.{core_after};
-ghost use Rattle.ob_cli.specs.Turns.Script.{core_grammar, core_texts, turn_trace};
-ghost use Rattle.ob_cli.specs.Turns.Session.{HasPlayed};
-ghost use Rattle.ob_cli.specs.Turns.Text.{lane_text};
+ghost use Rattle.ob_core.specs.World.{new_core, start_fault};
+ghost use Rattle.ob_cli.specs.Inside.{HasPlayed};
+ghost use Rattle.ob_cli.specs.Turns.{core_grammar, core_texts, turn_trace, lane_text};
 
 use crate::turns::line::CoreLine;
 use crate::turns::text::{push_end, push_lane, push_turn};

@@ -1,5 +1,5 @@
 ghost use Rattle.std.specs.Prelude.{◌≡◌, ◌++◌, OnOk, string_bytes};
-ghost use Rattle.ob_cli.specs.Turns.Text.{end_text, event_text, lane_text, turn_text};
+ghost use Rattle.ob_cli.specs.Turns.{end_text, event_text, lane_text, turn_text};
 
 use ob_core::Event;
 use ob_script::{push_change, push_words};

@@ -1,5 +1,5 @@
 ghost use Rattle.std.specs.Prelude.{◌≡◌};
-ghost use Rattle.ob_cli.specs.Turns.Table.{core_table};
+ghost use Rattle.ob_cli.specs.Turns.{core_table};
 ghost use Rattle.ob_cli.specs.declared.turns.line.CoreLine.TheVariants as line;
 
 use crate::turns::line::CoreLine;

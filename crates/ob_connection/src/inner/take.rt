@@ -2,7 +2,7 @@
 
 ghost use Rattle.std.specs.Prelude.{◌≡◌, ◌≤◌, ◌+◌, ◌-◌, length, drop, false, OnOk, IsOk, IsErrOf};
 ghost use Rattle.ob_types.specs.declared.command.Command.TheVariants.{RemoveBytes, FailFlushed, Close};
-ghost use Rattle.ob_types.specs.Change.{change_between};
+ghost use Rattle.ob_types.specs.Marks.{change_between};
 ghost use Rattle.ob_types.specs.declared.promise.Outcome.{Outcome};
 ghost use Rattle.ob_types.specs.declared.promise.Outcome.TheVariants.{Success, Failed};
 ghost use Rattle.ob_seq.specs.Steps.Step.{times};

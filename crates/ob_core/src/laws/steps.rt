@@ -1,12 +1,10 @@
 //! What one step does: it finds the word and the total in one number, reads its change off that, and leaves the rest.
 
 ghost use Rattle.std.specs.Prelude.{◌≡◌, ◌<◌, ◌^◌, ℕ};
-ghost use Rattle.ob_types.specs.Change.{change_between};
+ghost use Rattle.ob_types.specs.Marks.{change_between};
 ghost use Rattle.ob_core.specs.Bits.{with_bit, without_bit, SetsBit, ClearsBit};
-ghost use Rattle.ob_core.specs.CoreState.{CoreState};
-ghost use Rattle.ob_core.specs.CoreStep.{IsCoreStep};
-ghost use Rattle.ob_core.specs.Found.{value_found, change_found};
-ghost use Rattle.ob_core.specs.Rest.{LeavesRest};
+ghost use Rattle.ob_core.specs.Step.{IsCoreStep, value_found, change_found, LeavesRest};
+ghost use Rattle.ob_core.specs.World.{CoreState};
 ghost use Rattle.ob_core.specs.declared.lane_step.LaneStep.{LaneStep};
 ghost use Rattle.ob_core.specs.declared.lane_step.LaneStep.TheVariants.{Load};
 

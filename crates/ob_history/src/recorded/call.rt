@@ -1,6 +1,6 @@
 ghost use Rattle.std.specs.Prelude.{◌≡◌, ◌<◌, vec_capacity, vec_len};
 ghost use Rattle.ob_history.specs.Call.{IsCall, IsRecording, next_record};
-ghost use Rattle.ob_history.specs.Keeping.{KeepsReceipt};
+ghost use Rattle.ob_history.specs.Receipts.{KeepsReceipt};
 
 use crate::answer;
 use crate::receipt::Receipt;

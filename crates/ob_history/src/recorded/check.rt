@@ -1,5 +1,5 @@
 ghost use Rattle.std.specs.Prelude.{◌≡◌, ◌<◌, ◌↔◌, List, length, IsTrue, IfOk, IsOk, IsOkUnless};
-ghost use Rattle.ob_history.specs.Receipt.{IsReceiptIn, record_of};
+ghost use Rattle.ob_history.specs.Receipts.{IsReceiptIn, record_of};
 ghost use Rattle.ob_history.specs.Seen.{IsSeenIn};
 
 use crate::answer;

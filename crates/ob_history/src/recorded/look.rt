@@ -1,6 +1,5 @@
 ghost use Rattle.std.specs.Prelude.{◌≡◌};
-ghost use Rattle.ob_history.specs.Glance.{glance_after};
-ghost use Rattle.ob_history.specs.Seen.{IsLookAt};
+ghost use Rattle.ob_history.specs.Seen.{glance_after, IsLookAt};
 
 use crate::glance::Glance;
 use crate::recorded::Recorded;

@@ -1,7 +1,7 @@
 ghost use Rattle.std.specs.Prelude.{◌≡◌, None};
-ghost use Rattle.ob_core.specs.Owed.{owed_by};
+ghost use Rattle.ob_core.specs.Accounts.{owed_by};
 ghost use Rattle.ob_core.specs.declared.lane_step.LaneStep.TheVariants.{Subtract};
-ghost use Rattle.ob_lanes.specs.Charge.{ChangesDebt};
+ghost use Rattle.ob_lanes.specs.Calls.{ChangesDebt};
 
 use super::Charged;
 use crate::both::{after_subtract, change_of};

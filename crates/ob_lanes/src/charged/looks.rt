@@ -1,6 +1,6 @@
 ghost use Rattle.std.specs.Prelude.{◌≡◌};
-ghost use Rattle.ob_core.specs.Owed.{owed_by};
-ghost use Rattle.ob_lanes.specs.Read.{IsTotalRead, IsWordRead};
+ghost use Rattle.ob_core.specs.Accounts.{owed_by};
+ghost use Rattle.ob_lanes.specs.Calls.{IsTotalRead, IsWordRead};
 
 use super::Charged;
 use crate::both::{total_of, word_of};

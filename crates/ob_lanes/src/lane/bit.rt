@@ -1,7 +1,7 @@
 ghost use Rattle.std.specs.Prelude.{◌≡◌, ◌&&◌, nat_lt, false, true, IsErr, OnErr, IsOkAnd};
-ghost use Rattle.ob_core.specs.AskFault.{is_held};
 ghost use Rattle.ob_core.specs.Bits.{is_set};
-ghost use Rattle.ob_lanes.specs.Bit.{IsBit, bit_step};
+ghost use Rattle.ob_core.specs.Step.{is_held};
+ghost use Rattle.ob_lanes.specs.Calls.{IsBit, bit_step};
 
 use super::Lane;
 use crate::both::{after_clear, after_set, change_of};

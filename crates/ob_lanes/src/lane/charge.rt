@@ -1,6 +1,6 @@
 ghost use Rattle.std.specs.Prelude.{◌≡◌, ◌<◌, ◌≤◌, IsOk, IfOk, IsErrAnd};
 ghost use Rattle.ob_core.specs.declared.lane_step.LaneStep.TheVariants.{Add};
-ghost use Rattle.ob_lanes.specs.Charge.{debt_of, ChangesDebt};
+ghost use Rattle.ob_lanes.specs.Calls.{debt_of, ChangesDebt};
 
 use super::Lane;
 use crate::both::{after_add, change_of};

@@ -1,8 +1,7 @@
 ghost use Rattle.std.specs.Prelude.{◌≡◌, ℕ, ◌<◌, ◌≤◌, false, IfOk, IsOk, IsErrAnd};
 ghost use Rattle.std.specs.Int.{bit_at};
 ghost use Rattle.ob_core.specs.Bits.{is_set};
-ghost use Rattle.ob_lanes.specs.InRun.{EndsRun};
-ghost use Rattle.ob_lanes.specs.RunningLane.{ShowsHeld};
+ghost use Rattle.ob_lanes.specs.RunningLane.{EndsRun, ShowsHeld};
 
 use super::Lane;
 use crate::both::{total_of, word_of};

@@ -1,5 +1,5 @@
 ghost use Rattle.std.specs.Prelude.{◌≡◌, ◌++◌, ◌∷◌};
-ghost use Rattle.ob_lanes.specs.Joined.{IsJoined};
+ghost use Rattle.ob_lanes.specs.Calls.{IsJoined};
 
 use super::Lane;
 use crate::words::Words;

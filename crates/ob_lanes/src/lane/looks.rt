@@ -1,5 +1,5 @@
 ghost use Rattle.std.specs.Prelude.{◌≡◌};
-ghost use Rattle.ob_lanes.specs.Read.{IsTotalRead, IsWordRead};
+ghost use Rattle.ob_lanes.specs.Calls.{IsTotalRead, IsWordRead};
 
 use super::Lane;
 use crate::both::{total_of, word_of};

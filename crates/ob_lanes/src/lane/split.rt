@@ -1,5 +1,5 @@
 ghost use Rattle.std.specs.Prelude.{◌≡◌, ◌+◌, [], ◌∷◌, None, IfSome, IfOk, IfErr, IsOk, IsErrAnd};
-ghost use Rattle.ob_lanes.specs.Split.{split_fault, IsSplit};
+ghost use Rattle.ob_lanes.specs.Calls.{split_fault, IsSplit};
 
 use super::Lane;
 use crate::fault::SplitFault;

@@ -1,8 +1,8 @@
 //! Seats that are cut in two and made one.
 ghost use Rattle.std.specs.Prelude.{◌≡◌, [], None};
 ghost use Rattle.ob_core.specs.Parts.{IsFree};
-ghost use Rattle.ob_lanes.specs.Divided.{kept_facts, given_facts, both_facts};
-ghost use Rattle.ob_lanes.specs.Split.{split_fault};
+ghost use Rattle.ob_lanes.specs.Calls.{split_fault};
+ghost use Rattle.ob_lanes.specs.Inside.{kept_facts, given_facts, both_facts};
 ghost use Rattle.ob_lanes.specs.Told.{IsSeatOf, IsSameSeat};
 
 use super::Words;

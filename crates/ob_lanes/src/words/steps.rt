@@ -1,6 +1,6 @@
 //! One atomic step each, made by the lane whose seat is passed.
 ghost use Rattle.std.specs.Prelude.{◌≡◌, ◌<◌, ◌+◌, ◌≤◌, ◌↔◌, IsTrue};
-ghost use Rattle.ob_types.specs.Packed.{total_half};
+ghost use Rattle.ob_types.specs.Marks.{total_half};
 ghost use Rattle.ob_core.specs.declared.lane_step.LaneStep.TheVariants.{Add, Subtract, SetBit, ClearBit, Load};
 ghost use Rattle.ob_lanes.specs.Told.{IsCalm, MayExpect, MayMake, Makes, MakesOrReads};
 

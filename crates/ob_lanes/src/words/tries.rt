@@ -4,10 +4,10 @@
 //! What was found before a pause is old after it, so the next exchange finds it anew, and the one behind that comes at once.
 //! If no total is above the high mark, both are one addition or subtraction, which cannot fail.
 ghost use Rattle.std.specs.Prelude.{◌≡◌, ◌<◌, ◌+◌, ◌≤◌, IfSome};
-ghost use Rattle.ob_types.specs.Packed.{total_half};
+ghost use Rattle.ob_types.specs.Marks.{total_half};
 ghost use Rattle.ob_core.specs.declared.lane_step.LaneStep.TheVariants.{Add, Load, Subtract};
+ghost use Rattle.ob_lanes.specs.Inside.{HasTried, SeatTries};
 ghost use Rattle.ob_lanes.specs.Told.{IsSameSeat, MayExpect, MayMake};
-ghost use Rattle.ob_lanes.specs.Tried.{HasTried, SeatTries};
 
 use super::Words;
 use crate::facts::Facts;

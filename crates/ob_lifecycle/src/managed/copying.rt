@@ -5,8 +5,7 @@ ghost use Rattle.ob_types.specs.declared.command.Command.TheVariants.{Write};
 ghost use Rattle.ob_types.specs.declared.message.Message.TheVariants.{Block};
 ghost use Rattle.ob_connection.specs.Obeying.{Accepts};
 ghost use Rattle.ob_lifecycle.specs.Inside.{FitsIn};
-ghost use Rattle.ob_lifecycle.specs.Managed.{Gives};
-ghost use Rattle.ob_lifecycle.specs.Writes.{IsNotWritten, WritesTo, fault_of_write};
+ghost use Rattle.ob_lifecycle.specs.Managed.{Gives, IsNotWritten, WritesTo, fault_of_write};
 
 use super::ManagedConnection;
 use crate::fault::WriteFault;

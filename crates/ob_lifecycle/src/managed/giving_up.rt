@@ -2,8 +2,8 @@ ghost use Rattle.std.specs.Prelude.{◌≡◌, is_err, IfErr, IfOk, OnErr, OnOk}
 ghost use Rattle.ob_seq.specs.State.{closed_after};
 ghost use Rattle.ob_connection.specs.Obeying.{GivesUp};
 ghost use Rattle.ob_connection.specs.Connected.{room_in, Gives};
+ghost use Rattle.ob_lifecycle.specs.Events.{giving_up_happens};
 ghost use Rattle.ob_lifecycle.specs.Managed.{Brings};
-ghost use Rattle.ob_lifecycle.specs.Sendings.{giving_up_happens};
 
 use super::ManagedConnection;
 use crate::fault::Told;

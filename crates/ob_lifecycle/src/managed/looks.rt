@@ -1,9 +1,9 @@
 //! The looks at a managed connection.
 
 ghost use Rattle.std.specs.Prelude.{◌≡◌};
-ghost use Rattle.ob_lifecycle.specs.Finish.{is_finishing, was_over};
+ghost use Rattle.ob_lifecycle.specs.Events.{is_finishing, was_over};
 ghost use Rattle.ob_lifecycle.specs.Managed.{Gives};
-ghost use Rattle.ob_lifecycle.specs.Numbers.{numbers_after};
+ghost use Rattle.ob_lifecycle.specs.Strain.{numbers_after};
 
 use super::ManagedConnection;
 use crate::count::Count;

@@ -4,7 +4,7 @@ ghost use Rattle.std.specs.Prelude.{◌≡◌};
 ghost use Rattle.ob_types.specs.PendingSize.{pending_size_of};
 ghost use Rattle.ob_types.specs.declared.message.Message.TheVariants.{Block};
 ghost use Rattle.ob_connection.specs.Obeying.{joined};
-ghost use Rattle.ob_lifecycle.specs.Writes.{WritesTo};
+ghost use Rattle.ob_lifecycle.specs.Managed.{WritesTo};
 
 use super::ManagedConnection;
 use crate::fault::WriteFault;

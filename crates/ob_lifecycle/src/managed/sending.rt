@@ -4,8 +4,8 @@ ghost use Rattle.std.specs.Prelude.{◌≡◌, IfErr, IfOk, OnErr};
 ghost use Rattle.ob_connection.specs.declared.connection.sending.SendFault.TheVariants.{Closed as IsClosed};
 ghost use Rattle.ob_connection.specs.Connected.{TakesNoRoom};
 ghost use Rattle.ob_connection.specs.Sending.{Asks, EndsSending, Sends, SendsInTurns};
+ghost use Rattle.ob_lifecycle.specs.Events.{sending_happens};
 ghost use Rattle.ob_lifecycle.specs.Managed.{Brings};
-ghost use Rattle.ob_lifecycle.specs.Sendings.{sending_happens};
 
 use super::ManagedConnection;
 use crate::changes;

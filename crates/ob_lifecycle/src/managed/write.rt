@@ -2,7 +2,7 @@ ghost use Rattle.std.specs.Prelude.{◌≡◌, IfErr, Err, None, is_ok};
 ghost use Rattle.ob_types.specs.PendingSize.{pending_size_of};
 ghost use Rattle.ob_types.specs.declared.message.Message.{Message};
 ghost use Rattle.ob_lifecycle.specs.Inside.{FitsIn, IsRefusedAs};
-ghost use Rattle.ob_lifecycle.specs.Writes.{WritesTo};
+ghost use Rattle.ob_lifecycle.specs.Managed.{WritesTo};
 
 use super::ManagedConnection;
 use crate::fault::{NotWritten, WriteFault};

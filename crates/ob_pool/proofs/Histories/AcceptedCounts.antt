@@ -10,10 +10,9 @@ use Rattle.ob_types.specs.Limits.{greatest_total}
 use Rattle.ob_types.specs.declared.command.Command.{Command}
 use Rattle.ob_types.specs.declared.command.Command.TheVariants.{Write, Flush, Remove, RemoveWith, RemoveBytes, Progress}
 use Rattle.ob_types.specs.declared.command.Command.TheVariants.{Cancel, FailFlushed, Close, UserBit, SetMarks}
-use Rattle.ob_history.specs.Accepted.{accepted_commands, is_accepted}
-use Rattle.ob_history.specs.History.{most_records}
+use Rattle.ob_history.specs.History.{accepted_commands, is_accepted, most_records}
 use Rattle.ob_history.specs.declared.record.Record.{Record}
-use Rattle.ob_pool.specs.Report.Counts.{removed_by, taken_of}
+use Rattle.ob_pool.specs.Report.{removed_by, taken_of}
 
 -- what a record asked
 abbrev command_of : Record → Command

@@ -4,17 +4,16 @@ use Rattle.std.proofs.Common.{cond, subst, arith}
 use Rattle.std.specs.Prelude.{◌&&◌, nat_lt, not, count_by, slice_index_or}
 use Rattle.std.proofs.lemmas.List.{drop_more, take-append-drop, take_more}
 use Rattle.std.proofs.lemmas.List.Sums.{count_by-le-length, sum_by-append}
-use Rattle.ob_types.specs.Write.{is_write}
+use Rattle.ob_types.specs.Traits.{is_write}
 use Rattle.ob_types.specs.declared.command.Command.{Command}
 use Rattle.ob_types.specs.declared.promise.Outcome.{Outcome}
 use Rattle.ob_types.specs.declared.promise.PromiseId.{PromiseId}
-use Rattle.ob_history.specs.Accepted.{accepted_commands, is_accepted}
-use Rattle.ob_history.specs.History.{History, IsBounded}
-use Rattle.ob_history.specs.Settlements.{settlements_in}
+use Rattle.ob_history.specs.History.{accepted_commands, is_accepted, History, IsBounded}
+use Rattle.ob_history.specs.Seen.{settlements_in}
 use Rattle.ob_history.specs.declared.record.Record.{Record}
-use Rattle.ob_pool.specs.Report.Counting.{DoFit, counts_of, plus}
-use Rattle.ob_pool.specs.Report.Counts.{is_cancel, is_cancelled, is_failed, is_flush, is_success, is_user_bit}
-use Rattle.ob_pool.specs.Report.Counts.{settled_as, taken_of}
+use Rattle.ob_pool.specs.Inside.{DoFit, counts_of, plus}
+use Rattle.ob_pool.specs.Report.{is_cancel, is_cancelled, is_failed, is_flush, is_success, is_user_bit, settled_as}
+use Rattle.ob_pool.specs.Report.{taken_of}
 use Rattle.ob_pool.specs.declared.report.counts.Counts.{Counts}
 use Rattle.ob_pool.proofs.Histories.AcceptedCounts.{accepted_at_most, accepted_of_both, taken_of_both}
 use Rattle.ob_pool.proofs.Histories.Settled.{Tally, settlements_of_both}

@@ -10,17 +10,14 @@ use Rattle.std.proofs.lemmas.List.Elements.{All-cons, All-contains, All-head, Al
 use Rattle.std.proofs.lemmas.List.Elements.{Contains-push}
 use Rattle.std.proofs.lemmas.List.Sums.{count_by-le-length, sum_by-cons, sum_by_push}
 use Rattle.ob_types.specs.declared.command.Command.{Command}
-use Rattle.ob_history.specs.Own.{records_of}
-use Rattle.ob_history.specs.Receipt.{record_of}
+use Rattle.ob_history.specs.Receipts.{records_of, record_of}
 use Rattle.ob_history.specs.declared.receipt.Receipt.{Receipt}
 use Rattle.ob_history.specs.declared.record.Record.{Record}
 use Rattle.ob_shared.specs.Finish.{HandsInAll}
 use Rattle.ob_shared.specs.Share.{Handed, made_by}
-use Rattle.ob_pool.specs.Report.HandedIn.{HaveHandedIn}
-use Rattle.ob_pool.specs.Threads.Sending.{failings_in}
-use Rattle.ob_pool.specs.Report.CarriedOut.{AreCarriedOut, commands_of}
-use Rattle.ob_pool.specs.Report.Counts.{failings_of, is_failing}
-use Rattle.ob_pool.specs.Threads.Job.{Work, commands_in, work_from, done_by}
+use Rattle.ob_pool.specs.Inside.{HaveHandedIn}
+use Rattle.ob_pool.specs.Report.{AreCarriedOut, commands_of, failings_of, is_failing}
+use Rattle.ob_pool.specs.Threads.{failings_in, Work, commands_in, work_from, done_by}
 
 -- what a record asked
 abbrev command_of : Record → Command

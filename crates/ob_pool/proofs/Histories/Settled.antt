@@ -17,14 +17,12 @@ use Rattle.ob_seq.specs.Looks.{promise_after}
 use Rattle.ob_seq.specs.Rows.{Settings}
 use Rattle.ob_seq.specs.Pending.{settled_by, times_settled}
 use Rattle.ob_seq.specs.State.{writes_in}
-use Rattle.ob_history.specs.Accepted.{accepted_commands}
-use Rattle.ob_history.specs.History.{History, IsBounded, most_records}
-use Rattle.ob_history.specs.Legal.{IsLegal}
-use Rattle.ob_history.specs.Settlements.{settlements_in}
-use Rattle.ob_types.specs.Write.{is_write}
+use Rattle.ob_history.specs.History.{accepted_commands, History, IsBounded, most_records, IsLegal}
+use Rattle.ob_history.specs.Seen.{settlements_in}
+use Rattle.ob_types.specs.Traits.{is_write}
 use Rattle.ob_pool.proofs.Histories.AcceptedCounts.{accepted_at_most}
 use Rattle.ob_history.specs.declared.record.Record.{Record}
-use Rattle.ob_pool.specs.Report.Counts.{is_cancelled, is_failed, is_success, left_of, settled_as, writes_of}
+use Rattle.ob_pool.specs.Report.{is_cancelled, is_failed, is_success, left_of, settled_as, writes_of}
 
 -- how many settlements are of promises below an id
 abbrev below : ℕ → List (PromiseId × Outcome) → ℕ

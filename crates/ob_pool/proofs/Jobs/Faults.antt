@@ -3,7 +3,7 @@ use Rattle.std.proofs.Common.{◌≡◌, ◌<◌, ◌≤◌, ℕ, ap, arith, sub
 use Rattle.std.specs.Prelude.{Err, IfErr, IsErrOf, Ok, Result}
 use Rattle.ob_types.specs.declared.refusal.Refusal.{Refusal}
 use Rattle.ob_types.specs.declared.refusal.Refusal.TheVariants.{HistoryFull}
-use Rattle.ob_pool.specs.DriveFault.{ComesOfWork, NamesOneOf, number_of}
+use Rattle.ob_pool.specs.Drive.{ComesOfWork, NamesOneOf, number_of}
 use Rattle.ob_pool.specs.declared.fault.DriveFault.{DriveFault}
 use Rattle.ob_pool.specs.declared.fault.DriveFault.TheVariants.{BadCount, BadPlan, TooMuchRoom, NoMemory, Stuck}
 use Rattle.ob_pool.specs.declared.fault.DriveFault.TheVariants.{Refused, Transport, Finish}

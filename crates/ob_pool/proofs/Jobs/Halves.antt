@@ -4,14 +4,14 @@ use Rattle.std.proofs.Common.{subst, arith}
 use Rattle.std.specs.Prelude.{nat_lt, IfOk, IsOkAnd, None, Result, Ok, Err}
 use Rattle.std.proofs.lemmas.Bool.Decides.{nat_tests}
 use Rattle.ob_core.specs.declared.lane.Lane.{Lane}
-use Rattle.ob_lanes.specs.Split.{split_fault}
+use Rattle.ob_lanes.specs.Calls.{split_fault}
 use Rattle.ob_lanes.proofs.HeldBits.{none_held}
 use Rattle.std.proofs.lemmas.List.{map-append, take-append-drop}
 use Rattle.std.proofs.lemmas.List.Elements.{All-drop, All-take}
 use Rattle.std.specs.List.{All}
 use Rattle.ob_shared.specs.Share.{Handed}
 use Rattle.std.proofs.lemmas.List.Sums.{sum_by-take-drop}
-use Rattle.ob_pool.specs.Threads.Job.{AreDone, Job, asked, done_by, room_for}
+use Rattle.ob_pool.specs.Threads.{AreDone, Job, asked, done_by, room_for}
 
 -- two lists of jobs that are done one behind the other
 pub both_done : (jobs others : List Job) (dones more all : List Handed) → AreDone jobs dones →

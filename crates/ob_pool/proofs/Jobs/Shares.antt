@@ -8,8 +8,8 @@ use Rattle.std.proofs.lemmas.List.FromFn.{map-range_with_len_more}
 use Rattle.std.proofs.lemmas.List.Sums.{sum_by-cons, sum_by_push}
 use Rattle.ob_types.specs.declared.command.Command.{Command}
 use Rattle.ob_types.specs.declared.estimate.Estimate.{Estimate}
-use Rattle.ob_pool.specs.Threads.Job.{Work, Job, IsNumbered, IsRoomy, asked, work_from, room_for}
-use Rattle.ob_pool.specs.Planning.HandOff.{room_of, rooms_of}
+use Rattle.ob_pool.specs.Drive.{room_of, rooms_of}
+use Rattle.ob_pool.specs.Threads.{Work, Job, IsNumbered, IsRoomy, asked, work_from, room_for}
 use Rattle.ob_shared.specs.Share.{Maker, new_maker, ShareValue, new_share, new_shares}
 
 -- new shares without the last are those of the writers, and the last is the next caller's

@@ -3,8 +3,8 @@ use Rattle.std.proofs.Common.{◌≡◌, ℕ, ◌+◌, ◌<◌, ◌≤◌, max, 
 use Rattle.ob_types.specs.declared.command.Command.{Command}
 use Rattle.ob_types.specs.declared.estimate.Estimate.{Estimate}
 use Rattle.ob_history.specs.declared.receipt.Receipt.{Receipt}
-use Rattle.ob_pool.specs.Planning.HandOff.{charge_for, room_of}
-use Rattle.ob_pool.specs.Threads.Job.{commands_in}
+use Rattle.ob_pool.specs.Drive.{charge_for, room_of}
+use Rattle.ob_pool.specs.Threads.{commands_in}
 
 -- if there is room for what is left of a plan, there is room for all but its next command
 pub room_rest : (estimate : Estimate) (task : ℕ) (command : Command) (plan rest : List Command) (room : ℕ) →

@@ -15,20 +15,17 @@ use Rattle.ob_types.specs.declared.refusal.Refusal.{Refusal}
 use Rattle.ob_history.specs.Call.{IsRecording, history_after, is_full, next_record, with_record}
 use Rattle.ob_history.specs.History.{History}
 use Rattle.ob_history.specs.declared.record.Record.{Record}
-use Rattle.ob_transport.specs.GrowAlike.{GrowAlike}
-use Rattle.ob_transport.specs.InFront.{current_in, gathered_in, progress_in, sent_bytes_in, sent_units_in}
-use Rattle.ob_transport.specs.IsPass.{IsPass}
-use Rattle.ob_transport.specs.Outcome.{Clears, SendsBytes, SendsUnits, ready}
-use Rattle.ob_transport.specs.Content.{Content}
-use Rattle.ob_transport.specs.Standing.{Standing, standing}
+use Rattle.ob_transport.specs.Pass.{GrowAlike, IsPass, Clears, SendsBytes, SendsUnits, ready, Standing, standing}
+use Rattle.ob_transport.specs.Sent.{current_in, gathered_in, progress_in, sent_bytes_in, sent_units_in}
+use Rattle.ob_transport.specs.Sink.{Content}
 use Rattle.ob_transport.specs.declared.fault.Pass.{Pass}
 use Rattle.ob_transport.specs.declared.fault.Pass.TheVariants.{Idle, Stalled, Cleared, Took}
 use Rattle.ob_transport.specs.declared.fault.PassFault.{PassFault}
 use Rattle.ob_transport.specs.declared.fault.PassFault.TheVariants.{Sink, HistoryFull, NoMemory, Unbooked}
 use Rattle.ob_transport.specs.declared.limits.Limits.{Limits}
 use Rattle.ob_transport.proofs.Sent.{no_bytes_sent, no_units_sent}
-use Rattle.ob_pool.specs.Report.Counts.{failings_of, is_failing}
-use Rattle.ob_pool.specs.Threads.Sending.{GrowsBy}
+use Rattle.ob_pool.specs.Report.{failings_of, is_failing}
+use Rattle.ob_pool.specs.Threads.{GrowsBy}
 
 -- one more call of a command that is no failing
 pub same_after : (history : History) (caller : ℕ) (command : Command) → is_failing command ≡ false →

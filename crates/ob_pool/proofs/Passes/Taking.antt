@@ -13,26 +13,17 @@ use Rattle.std.proofs.lemmas.List.Sums.{sum_by-append, sum_by-cons}
 use Rattle.std.proofs.lemmas.Result.{IfOk-at_ok}
 use Rattle.ob_seq.specs.Effect.{rows_after}
 use Rattle.ob_seq.specs.Rows.{Settings}
-use Rattle.ob_history.specs.Accepted.{accepted_commands}
-use Rattle.ob_history.specs.Beginning.{IsBeginning}
-use Rattle.ob_history.specs.History.{History}
-use Rattle.ob_history.specs.Legal.{IsLegal}
-use Rattle.ob_history.specs.Own.{receipts_since, records_of}
-use Rattle.ob_history.specs.Receipt.{receipt_of, record_of}
+use Rattle.ob_history.specs.History.{accepted_commands, IsBeginning, History, IsLegal}
+use Rattle.ob_history.specs.Receipts.{receipts_since, records_of, receipt_of, record_of}
 use Rattle.ob_history.specs.declared.receipt.Receipt.{Receipt}
 use Rattle.ob_history.specs.declared.record.Record.{Record}
 use Rattle.ob_shared.specs.Share.{Handed, Maker, ShareValue}
-use Rattle.ob_transport.specs.Content.{Content}
-use Rattle.ob_transport.specs.GrowAlike.{GrowAlike}
-use Rattle.ob_transport.specs.SentBy.{Sent, nothing, sent_by}
-use Rattle.ob_transport.specs.SentBytes.{sent_bytes}
-use Rattle.ob_transport.specs.SentIn.{sent_in}
-use Rattle.ob_transport.specs.SentUnits.{sent_units}
-use Rattle.ob_transport.specs.Standing.{standing}
+use Rattle.ob_transport.specs.Pass.{GrowAlike, standing}
+use Rattle.ob_transport.specs.Sent.{Sent, nothing, sent_by, sent_bytes, sent_in, sent_units}
+use Rattle.ob_transport.specs.Sink.{Content}
 use Rattle.ob_transport.proofs.Records.{at_seam, bytes_by_records, units_by_records}
-use Rattle.ob_pool.specs.Report.Counts.{failings_of, is_failing}
-use Rattle.ob_pool.specs.Threads.Job.{commands_in}
-use Rattle.ob_pool.specs.Threads.Sending.{GrowsBy, HasTakenOf, HasTransported, failings_in, sent_at}
+use Rattle.ob_pool.specs.Report.{failings_of, is_failing}
+use Rattle.ob_pool.specs.Threads.{commands_in, GrowsBy, HasTakenOf, HasTransported, failings_in, sent_at}
 
 -- two ways to send that agree on each of a list send the same together
 bytes_agree : {X : Type 0} (one other : X → Sent) (xs : List X) → All (λ x. one x ≡ other x) xs →

@@ -6,9 +6,8 @@ use Rattle.std.specs.Prelude.{nat_lt, slice_index_or, None, Some}
 use Rattle.std.proofs.lemmas.Bool.Decides.{nat_tests}
 use Rattle.std.proofs.lemmas.List.{length-append, length-replicate}
 use Rattle.ob_types.specs.declared.command.Command.{Command}
-use Rattle.ob_pool.specs.Planning.Plan.{bad_step, is_planned}
-use Rattle.ob_pool.specs.Planning.PlansFault.{bad_plan_from, fault_at}
-use Rattle.ob_pool.specs.Planning.Runs.{commands_in_run, commands_of}
+use Rattle.ob_pool.specs.Drive.{bad_step, is_planned, bad_plan_from, fault_at}
+use Rattle.ob_pool.specs.Inside.{commands_in_run, commands_of}
 use Rattle.ob_pool.specs.declared.plan.Run.{Run}
 use Rattle.ob_pool.proofs.Plans.Runs.{count_of, runs_more, whole_of}
 

@@ -3,8 +3,8 @@ use Rattle.std.proofs.Common.{◌≡◌, ℕ, true, false, List, refl, sym, ap, 
 use Rattle.std.specs.Prelude.{IfSome, IsSome, None, Option, Some}
 use Rattle.ob_types.specs.declared.command.Command.{Command}
 use Rattle.ob_types.specs.declared.estimate.Estimate.{Estimate}
-use Rattle.ob_pool.specs.Planning.Checked.{AreChecked, Checked}
-use Rattle.ob_pool.specs.Planning.PlansFault.{plans_fault}
+use Rattle.ob_pool.specs.Drive.{plans_fault}
+use Rattle.ob_pool.specs.Inside.{AreChecked, Checked}
 use Rattle.ob_pool.specs.declared.fault.DriveFault.{DriveFault}
 
 -- plans that were checked for an estimate and what a hand-off adds have no fault under these

@@ -10,10 +10,10 @@ use Rattle.ob_types.specs.declared.command.Command.TheVariants.{Write, Flush, Re
 use Rattle.ob_types.specs.declared.command.Command.TheVariants.{Cancel, FailFlushed, Close, UserBit, SetMarks}
 use Rattle.ob_types.specs.declared.estimate.Estimate.{Estimate}
 use Rattle.ob_seq.specs.Rows.{Row}
-use Rattle.ob_transport.specs.SentBy.{nothing, sent_by}
-use Rattle.ob_pool.specs.Report.Counts.{is_failing}
-use Rattle.ob_pool.specs.Planning.Plan.{bad_step, is_planned}
-use Rattle.ob_pool.specs.Planning.PlansFault.{bad_plan_from, fault_at, first_of, is_bad_count, plans_fault, room_fault}
+use Rattle.ob_transport.specs.Sent.{nothing, sent_by}
+use Rattle.ob_pool.specs.Drive.{bad_step, is_planned, bad_plan_from, fault_at, first_of, is_bad_count, plans_fault}
+use Rattle.ob_pool.specs.Drive.{room_fault}
+use Rattle.ob_pool.specs.Report.{is_failing}
 use Rattle.ob_pool.specs.declared.fault.DriveFault.{DriveFault}
 use Rattle.ob_pool.specs.declared.fault.DriveFault.TheVariants.{BadCount}
 

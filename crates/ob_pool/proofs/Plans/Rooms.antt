@@ -9,8 +9,8 @@ use Rattle.std.proofs.lemmas.List.{drop_more, length-drop, length-map, length-ta
 use Rattle.std.proofs.lemmas.List.Sums.{sum_by_more}
 use Rattle.ob_types.specs.declared.command.Command.{Command}
 use Rattle.ob_types.specs.declared.estimate.Estimate.{Estimate}
-use Rattle.ob_pool.specs.Planning.HandOff.{charge_for, room_of, rooms_of}
-use Rattle.ob_pool.specs.Planning.Runs.{commands_in_run, commands_of}
+use Rattle.ob_pool.specs.Drive.{charge_for, room_of, rooms_of}
+use Rattle.ob_pool.specs.Inside.{commands_in_run, commands_of}
 use Rattle.ob_pool.specs.declared.plan.Run.{Run}
 use Rattle.ob_pool.proofs.Plans.Runs.{count_of, runs_more}
 

@@ -8,7 +8,7 @@ use Rattle.std.proofs.lemmas.List.Elements.{All-get_or}
 use Rattle.std.proofs.Math.Seq.{drop-nil}
 use Rattle.std.proofs.lemmas.Bool.Decides.{nat_tests}
 use Rattle.ob_types.specs.declared.command.Command.{Command}
-use Rattle.ob_pool.specs.Planning.Runs.{IsWithinRun, commands_from, commands_in_run, commands_of}
+use Rattle.ob_pool.specs.Inside.{IsWithinRun, commands_from, commands_in_run, commands_of}
 use Rattle.ob_pool.specs.declared.plan.Run.{Run}
 
 -- the commands from a run on are its own, and those behind it

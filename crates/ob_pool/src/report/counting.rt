@@ -1,8 +1,8 @@
 //! The numbers of a finished history.
 
 ghost use Rattle.std.specs.Prelude.{◌≡◌};
-ghost use Rattle.ob_pool.specs.Report.Counted.{IsCounted};
-ghost use Rattle.ob_pool.specs.Report.Counting.{DoFit, counts_of};
+ghost use Rattle.ob_pool.specs.Inside.{DoFit, counts_of};
+ghost use Rattle.ob_pool.specs.Report.{IsCounted};
 
 use crate::report::Report;
 use crate::report::counts::Counts;

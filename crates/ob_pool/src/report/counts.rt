@@ -1,7 +1,7 @@
 //! What the report counts, record by record.
 
 ghost use Rattle.std.specs.Prelude.{◌≡◌, [], ◌∷◌};
-ghost use Rattle.ob_pool.specs.Report.Counting.{DoFit, counts_by, counts_of, counts_with, no_counts, plus};
+ghost use Rattle.ob_pool.specs.Inside.{DoFit, counts_by, counts_of, counts_with, no_counts, plus};
 
 use ob_history::Record;
 use ob_types::{Command, Outcome, PromiseId};

@@ -2,12 +2,12 @@
 
 ghost use Rattle.std.specs.List.{All};
 ghost use Rattle.std.specs.Prelude.{◌≡◌, ◌≤◌, ◌++◌, [], ◌∷◌, length, IfErr, IfOk};
-ghost use Rattle.ob_history.specs.Beginning.{IsBeginning};
+ghost use Rattle.ob_history.specs.History.{IsBeginning};
 ghost use Rattle.ob_shared.specs.Finish.{HandsInAll};
 ghost use Rattle.ob_shared.specs.Opened.{IsAsOpened};
 ghost use Rattle.ob_shared.specs.Share.{made_by};
-ghost use Rattle.ob_pool.specs.DriveFault.{ComesOfWork};
-ghost use Rattle.ob_pool.specs.Report.HandedIn.{TellsEnd};
+ghost use Rattle.ob_pool.specs.Drive.{ComesOfWork};
+ghost use Rattle.ob_pool.specs.Inside.{TellsEnd};
 
 use crate::fault::DriveFault;
 use crate::report::Report;

@@ -1,7 +1,7 @@
 //! Writers that heed the marks.
 
 ghost use Rattle.std.specs.Prelude.{◌≡◌};
-ghost use Rattle.ob_pool.specs.Threads.Job.{HasRead};
+ghost use Rattle.ob_pool.specs.Threads.{HasRead};
 
 use crate::threads::context::Context;
 use ob_history::Booked;

@@ -1,9 +1,8 @@
 //! The job of one writer, who carries its plan out, command by command.
 
 ghost use Rattle.std.specs.Prelude.{◌≡◌, ◌+◌, ◌<◌, ◌≤◌, IfOk, IfErr, vec_capacity, vec_len};
-ghost use Rattle.ob_pool.specs.DriveFault.{ComesOfWork};
-ghost use Rattle.ob_pool.specs.Threads.Job.{HasRead, IsBack, IsNumbered, IsOneCall, IsRoomy, asked, done_by};
-ghost use Rattle.ob_pool.specs.Planning.HandOff.{charge_for};
+ghost use Rattle.ob_pool.specs.Drive.{ComesOfWork, charge_for};
+ghost use Rattle.ob_pool.specs.Threads.{HasRead, IsBack, IsNumbered, IsOneCall, IsRoomy, asked, done_by};
 
 use crate::fault::DriveFault;
 use crate::gate::{Gate, Stuck};
@@ -28,7 +27,7 @@ pub struct Job<L: Named> {
 }
 
 impl<L: Named> Model for Job<L> {
-    ghost use Rattle.ob_pool.specs.Threads.Job.{Job};
+    ghost use Rattle.ob_pool.specs.Threads.{Job};
 
     ghost Value = { Job };
 

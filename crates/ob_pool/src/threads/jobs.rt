@@ -2,8 +2,8 @@
 
 ghost use Rattle.std.specs.Prelude.{◌≡◌, ◌+◌, ◌<◌, ◌≤◌, ◌^◌, ◌++◌, ℕ, IfErr, IfOk, IsOkAnd, vec_len};
 ghost use Rattle.std.specs.Thread.{IsSync};
-ghost use Rattle.ob_pool.specs.DriveFault.{ComesOfWork};
-ghost use Rattle.ob_pool.specs.Threads.Job.{AreDone, JobsHaveEnded, MayBegin, room_for};
+ghost use Rattle.ob_pool.specs.Drive.{ComesOfWork};
+ghost use Rattle.ob_pool.specs.Threads.{AreDone, JobsHaveEnded, MayBegin, room_for};
 
 use crate::fault::DriveFault;
 use crate::gate::Gate;

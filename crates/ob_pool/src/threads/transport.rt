@@ -2,13 +2,11 @@
 
 ghost use Rattle.std.specs.Prelude.{◌≡◌, ◌+◌, ◌++◌, Ok, IfErr, IfOk, IsOkAnd};
 ghost use Rattle.ob_shared.specs.Opened.{IsAsOpened};
-ghost use Rattle.ob_transport.specs.Content.{Content};
-ghost use Rattle.ob_transport.specs.GrowAlike.{GrowAlike};
-ghost use Rattle.ob_transport.specs.MayOffer.{MayOffer};
-ghost use Rattle.ob_transport.specs.Standing.{standing};
-ghost use Rattle.ob_pool.specs.Report.Counts.{failings_of};
-ghost use Rattle.ob_pool.specs.DriveFault.{ComesOfWork};
-ghost use Rattle.ob_pool.specs.Threads.Sending.{GrowsBy, HasTakenOf, HasTransported, failings_in};
+ghost use Rattle.ob_transport.specs.Pass.{GrowAlike, MayOffer, standing};
+ghost use Rattle.ob_transport.specs.Sink.{Content};
+ghost use Rattle.ob_pool.specs.Drive.{ComesOfWork};
+ghost use Rattle.ob_pool.specs.Report.{failings_of};
+ghost use Rattle.ob_pool.specs.Threads.{GrowsBy, HasTakenOf, HasTransported, failings_in};
 
 use crate::fault::DriveFault;
 use crate::threads::context::Context;

@@ -1,7 +1,7 @@
 ghost use Rattle.std.specs.Prelude.{◌≡◌, ◌+◌, ◌<◌, ◌≤◌, ◌==◌, List, ℕ, Some, true, false};
 ghost use Rattle.std.specs.Prelude.{IfErr, IfOk, drop, length, take};
-ghost use Rattle.ob_script.specs.Reading.Cursor.{EndsAt, IsFollowed, StandsAt};
-ghost use Rattle.ob_script.specs.Reading.Script.{greatest_script, script_lines};
+ghost use Rattle.ob_script.specs.Inside.{EndsAt, IsFollowed, StandsAt};
+ghost use Rattle.ob_script.specs.Reading.{greatest_script, script_lines};
 ghost use Rattle.ob_script.specs.declared.reading.fault.LineFault.{LineFault};
 ghost use Rattle.ob_script.specs.declared.reading.fault.LineFault.TheVariants.{Misplaced};
 ghost use Rattle.ob_script.specs.declared.script_fault.ScriptFault.TheVariants.{Line};
@@ -34,8 +34,8 @@ pub struct Cursor {
 
 impl Model for Cursor {
     ghost use Rattle.std.specs.Prelude.{◌+◌, ◌≤◌, drop, length};
-    ghost use Rattle.ob_script.specs.Reading.Cursor.{Cursor};
-    ghost use Rattle.ob_script.specs.Reading.Script.{greatest_script};
+    ghost use Rattle.ob_script.specs.Inside.{Cursor};
+    ghost use Rattle.ob_script.specs.Reading.{greatest_script};
 
     ghost Value = { Cursor };
 

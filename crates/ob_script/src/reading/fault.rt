@@ -22,7 +22,7 @@ pub enum LineFault {
 }
 
 impl LineFault {
-    ghost use Rattle.ob_script.specs.Reading.Fault.{fault_number_of};
+    ghost use Rattle.ob_script.specs.Reading.{fault_number_of};
 
     /// The number of the fault, 1 to 8, as the program tells it.
     pub fn number(self) -> u8

@@ -1,6 +1,5 @@
 ghost use Rattle.std.specs.Prelude.{◌≡◌, ◌≤◌, length, slice_index};
-ghost use Rattle.ob_script.specs.Reading.Numbers.{AreWithin};
-ghost use Rattle.ob_script.specs.Reading.Table.{Table};
+ghost use Rattle.ob_script.specs.Reading.{AreWithin, Table};
 
 use crate::reading::range::Range;
 

@@ -1,5 +1,5 @@
 ghost use Rattle.std.specs.Prelude.{◌≡◌};
-ghost use Rattle.ob_script.specs.Reading.Grammar as specs;
+ghost use Rattle.ob_script.specs.Reading as specs;
 
 use crate::reading::fault::LineFault;
 

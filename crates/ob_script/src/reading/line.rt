@@ -1,8 +1,6 @@
 ghost use Rattle.std.specs.Prelude.{◌≡◌, ◌<◌, ◌∷◌, [], length, slice_index};
 ghost use Rattle.std.specs.Str.{bytes_eq};
-ghost use Rattle.ob_script.specs.Reading.Lines.{words_after};
-ghost use Rattle.ob_script.specs.Reading.Line.{kind_reading, line_reading};
-ghost use Rattle.ob_script.specs.Reading.Table.{word_named};
+ghost use Rattle.ob_script.specs.Reading.{words_after, kind_reading, line_reading, word_named};
 
 use crate::reading::fault::LineFault;
 use crate::reading::first_word::FirstWord;

@@ -1,7 +1,7 @@
 ghost use Rattle.std.specs.Prelude.{◌≡◌, ◌<◌, ◌≤◌, ◌∷◌, drop, length, slice_index};
 ghost use Rattle.std.specs.Prelude.{◌==◌};
 ghost use Rattle.std.specs.List.{position, position_or_len};
-ghost use Rattle.ob_script.specs.Reading.Lines.{lines_of, words_of, words_after};
+ghost use Rattle.ob_script.specs.Reading.{lines_of, words_of, words_after};
 
 /// The first line of a script that is not empty, and how many bytes it takes with the byte 10 that ends it.
 pub fn first_line(script: &[u8]) -> (&[u8], usize)

@@ -1,6 +1,6 @@
 ghost use Rattle.std.specs.Prelude.{◌≡◌, ◌==◌, ◌<◌, ◌≤◌, ◌&&◌, [], drop, length, count_by, slice_index, Ok, IfSome, is_some};
-ghost use Rattle.ob_script.specs.Reading.Lines.{words_after};
-ghost use Rattle.ob_script.specs.Reading.Numbers.{all_numbers_in, before_numbers, is_short_number, numbers_in, HoldsNumbers};
+ghost use Rattle.ob_script.specs.Reading.{words_after, all_numbers_in, before_numbers, is_short_number, numbers_in};
+ghost use Rattle.ob_script.specs.Reading.{HoldsNumbers};
 
 use crate::reading::fault::LineFault;
 use crate::reading::lines::first_word;

@@ -4,7 +4,7 @@ ghost use Rattle.std.specs.Option.{SomeIff};
 ghost use Rattle.std.specs.List.{list_all};
 ghost use Rattle.std.specs.Char.{is_ascii_digit};
 ghost use Rattle.std.specs.Str.Parse.{digits_value};
-ghost use Rattle.ob_script.specs.Reading.Numbers.{holds, is_number, is_short_number, number_in};
+ghost use Rattle.ob_script.specs.Reading.{holds, is_number, is_short_number, number_in};
 ghost use Rattle.ob_script.specs.declared.reading.fault.LineFault.TheVariants.{OutOfRange};
 
 use crate::reading::fault::LineFault;

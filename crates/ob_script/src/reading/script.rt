@@ -1,7 +1,7 @@
 ghost use Rattle.std.specs.Prelude.{◌≡◌, ◌<◌, ◌≤◌, List, ℕ, Option, IsTrue, IfOk, IfErr, IfSome, IsErrOf, OnOk, length};
 ghost use Rattle.std.specs.Io.KnownBytes.{Consumes, IsAtEnd};
-ghost use Rattle.ob_script.specs.Outcome.{IsReadingFault};
-ghost use Rattle.ob_script.specs.Reading.Script.{greatest_script};
+ghost use Rattle.ob_script.specs.Reading.{greatest_script};
+ghost use Rattle.ob_script.specs.Tracing.{IsReadingFault};
 
 use crate::script_fault::ScriptFault;
 use std::alloc::{AllocError, Global};

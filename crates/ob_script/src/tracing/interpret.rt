@@ -1,8 +1,8 @@
 ghost use Rattle.std.specs.Prelude.{◌≤◌, [], length};
 ghost use Rattle.std.specs.Io.KnownBytes.{Appends};
-ghost use Rattle.ob_script.specs.Tracing.Ending.{Ends};
-ghost use Rattle.ob_script.specs.Tracing.Interprets.{Interprets};
-ghost use Rattle.ob_script.specs.Reading.Script.{greatest_script};
+ghost use Rattle.ob_script.specs.Inside.{Ends};
+ghost use Rattle.ob_script.specs.Reading.{greatest_script};
+ghost use Rattle.ob_script.specs.Tracing.{Interprets};
 
 use crate::reading::script::read_script;
 use crate::script_fault::ScriptFault;

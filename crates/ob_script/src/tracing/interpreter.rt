@@ -1,5 +1,5 @@
 ghost use Rattle.std.specs.Prelude.{◌≡◌, ◌++◌, [], ◌∷◌, List, true, not, IfOk, OnOk, string_bytes};
-ghost use Rattle.ob_script.specs.Tracing.Language.{Texts};
+ghost use Rattle.ob_script.specs.Tracing.{Texts};
 
 use crate::reading::grammar::Grammar;
 use std::alloc::{AllocError, Global};

@@ -1,6 +1,6 @@
 ghost use Rattle.std.specs.Prelude.{◌≡◌, ◌+◌, ◌<◌, ◌/◌, ◌%◌, ◌++◌, [], ◌∷◌, false, OnOk, string_bytes};
 ghost use Rattle.std.specs.Fmt.{decimal, digit_glyph};
-ghost use Rattle.ob_script.specs.Tracing.Text.{change_text, eight_hex, number_line, two_digits, word_text, words_text};
+ghost use Rattle.ob_script.specs.Tracing.{change_text, eight_hex, number_line, two_digits, word_text, words_text};
 
 use ob_types::Change;
 use std::alloc::AllocError;

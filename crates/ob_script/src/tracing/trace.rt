@@ -1,9 +1,8 @@
 ghost use Rattle.std.specs.Prelude.{◌≡◌, ◌≢◌, ◌++◌, ◌<◌, ◌≤◌, [], ◌∷◌, List, true, not, Ok, IsOk, IfOk, OnOk, OnErr};
 ghost use Rattle.std.specs.Prelude.{IfErr, length};
 ghost use Rattle.std.specs.Io.KnownBytes.{Keeps, append_known};
-ghost use Rattle.ob_script.specs.Tracing.Ending.{Ends, LinesEnd};
-ghost use Rattle.ob_script.specs.Reading.Script.{greatest_script, script_lines};
-ghost use Rattle.ob_script.specs.Tracing.Ending.{HasTraced};
+ghost use Rattle.ob_script.specs.Inside.{Ends, LinesEnd, HasTraced};
+ghost use Rattle.ob_script.specs.Reading.{greatest_script, script_lines};
 ghost use Rattle.ob_script.specs.declared.script_fault.ScriptFault.TheVariants.{Write};
 
 use crate::reading::cursor::Cursor;

@@ -5,7 +5,7 @@ use Rattle.ob_seq.proofs.Words.{is_in_line, front, line, effect, rows_after, mom
 use Rattle.ob_seq.proofs.Words.{settlements_from, reply_of, entry_of, Pending, Leaves, true, length-append, front_id}
 use Rattle.ob_seq.proofs.Words.{front_promise_after, position_or_len}
 use Rattle.ob_seq.specs.Answer.{answer_of}
-use Rattle.ob_seq.specs.Mark.{gives_notice}
+use Rattle.ob_seq.specs.State.{gives_notice}
 use Rattle.ob_seq.proofs.Rows.Acceptance.{same_reply}
 use Rattle.ob_seq.proofs.Rows.Along.{moments_past, settlements_past}
 use Rattle.ob_seq.proofs.Inside.Held.{Held, front_id_is, held_of, line_count, opening, opening_with, left_by_parts, word_at_end}

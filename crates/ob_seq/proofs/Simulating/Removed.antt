@@ -6,7 +6,7 @@ use Rattle.ob_seq.proofs.Words.{Reply, Yes, Row, front, effect, taken_row, with_
 use Rattle.ob_seq.proofs.Words.{entry_of, Pending, Leaves, front_taken, front_id, entry_settlements}
 use Rattle.ob_seq.proofs.Words.{Option, marks_set_by, times}
 use Rattle.ob_seq.specs.Answer.{answer_of, refusal_within}
-use Rattle.ob_seq.specs.Mark.{gives_notice}
+use Rattle.ob_seq.specs.State.{gives_notice}
 use Rattle.ob_seq.specs.Steps.Commands.{front_removed, removal_reply, removal_step, front_skipped}
 use Rattle.ob_seq.specs.Steps.Step.{is_first_voided}
 use Rattle.ob_seq.proofs.Rows.Fronts.{Carries, carried, rows_of, some_front}

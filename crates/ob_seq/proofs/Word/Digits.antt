@@ -4,7 +4,7 @@ use Rattle.ob_seq.proofs.Words.{arith, ltb, sum_by, nat_tests, range_with_len, b
 use Rattle.ob_seq.proofs.Words.{bit_at-suc, bit_at-zero, bit_value}
 use Rattle.std.proofs.Common.{add-one}
 use Rattle.std.proofs.Math.Nat.{pow-suc, mul_assoc, mul_comm, mul-add, mul-zero}
-use Rattle.ob_seq.specs.Word.{user_bits}
+use Rattle.ob_seq.specs.State.{user_bits}
 
 -- a digit of the binary system
 abbrev pub digit : Bool → ℕ

@@ -4,8 +4,7 @@ use Rattle.ob_seq.proofs.Words.{cond, ltb, append-nil, append_assoc, filter, Non
 use Rattle.ob_seq.proofs.Words.{cons_option, filter_map-append, reverse-append, filter-append, Marks}
 use Rattle.ob_seq.proofs.Words.{Command, Settings, Row, effect, rows_after, Moment, moment_of, moments_of, mark_after}
 use Rattle.ob_seq.proofs.Words.{marks_after, marks_set_by, bit_request, user_bit, bit_value, word_after}
-use Rattle.ob_seq.specs.Mark.{Rise, NoticedFall, SilentFall, decides, deciding_from, is_rise, is_set_by}
-use Rattle.ob_seq.specs.Word.{user_bits}
+use Rattle.ob_seq.specs.State.{Rise, NoticedFall, SilentFall, decides, deciding_from, is_rise, is_set_by, user_bits}
 use Rattle.ob_seq.specs.Steps.Step.{with_mark}
 use Rattle.ob_seq.proofs.Word.Digits.{half_bits, same_number, user_bits_even}
 

@@ -3,8 +3,8 @@ use Rattle.std.specs.Prelude.{ℕ, ◌+◌, ◌&&◌, Bool, false, not, [], ◌�
 use Rattle.std.specs.Prelude.{Some, None, ◌-◌, true, List, drop, slice_set, slice_index_or, nat_lt, suc, take, min, map}
 use Rattle.std.specs.Prelude.{◌^◌, bit_and, bit_or, Result, Ok, Err}
 use Rattle.std.specs.Int.{bit_not, w32}
-use Rattle.ob_types.specs.Change.{change_between}
 use Rattle.ob_types.specs.Limits.{greatest_total, greatest_progress}
+use Rattle.ob_types.specs.Marks.{change_between, Marks}
 use Rattle.ob_types.specs.PendingSize.{counted_bytes, is_oversize, pending_size_of}
 use Rattle.ob_types.specs.declared.message.Message.{Message}
 use Rattle.ob_types.specs.declared.promise.PromiseState.TheVariants.{Waiting, Fixed, Settled}
@@ -17,10 +17,9 @@ use Rattle.ob_types.specs.declared.promise.Outcome.{Outcome}
 use Rattle.ob_types.specs.declared.promise.PromiseId.{PromiseId}
 use Rattle.ob_types.specs.declared.reply.Reply.{Reply}
 use Rattle.ob_types.specs.declared.promise.Outcome.TheVariants.{Success, Cancelled, Failed}
-use Rattle.ob_types.specs.Waiting.{is_waiting}
+use Rattle.ob_types.specs.Replies.{is_waiting}
 use Rattle.ob_types.specs.declared.promise.Cause.{Cause}
 use Rattle.ob_types.specs.declared.promise.PromiseState.{PromiseState}
-use Rattle.ob_types.specs.WaterMark.{Marks}
 use Rattle.ob_types.specs.declared.command.Command.TheVariants.{Cancel, FailFlushed, Close, UserBit, SetMarks, Write}
 use Rattle.ob_types.specs.declared.command.Command.TheVariants.{Flush, Remove, RemoveWith, RemoveBytes, Progress}
 use Rattle.ob_types.specs.declared.command.Command.{Command}
@@ -33,7 +32,7 @@ use Rattle.ob_seq.specs.Looks.{PendingEntry, blocks_left}
 use Rattle.ob_seq.specs.Rows.{is_cancelled, without_skipped}
 use Rattle.ob_seq.specs.Effect.{block_bytes, bytes_in, pieces_within, failed}
 use Rattle.ob_seq.specs.declared.contents.cut.Cut.{Cut}
-use Rattle.ob_seq.specs.Word.{is_user_index}
+use Rattle.ob_seq.specs.State.{is_user_index}
 
 -- a buffer with a new message behind all others
 abbrev pub written : Pending → Message → ℕ → Pending

@@ -9,11 +9,11 @@ use Rattle.ob_types.specs.declared.refusal.Refusal.{Refusal}
 use Rattle.ob_types.specs.declared.reply.Reply.{Reply}
 use Rattle.ob_types.specs.declared.promise.PromiseState.TheVariants.{Waiting}
 use Rattle.ob_types.specs.declared.promise.PromiseState.{PromiseState}
-use Rattle.ob_types.specs.WaterMark.{Marks}
+use Rattle.ob_types.specs.Marks.{Marks}
 use Rattle.ob_seq.specs.Answer.{unless_refused}
-use Rattle.ob_seq.specs.Pending.{Pending, settled_by}
 use Rattle.ob_seq.specs.Looks.{PendingEntry}
-use Rattle.ob_seq.specs.Word.{bit_value}
+use Rattle.ob_seq.specs.Pending.{Pending, settled_by}
+use Rattle.ob_seq.specs.State.{bit_value}
 
 -- one command carried out on what a buffer holds that is not closed: why it is refused, if it is, and else what it
 -- replies and what the buffer holds after it

@@ -2,8 +2,8 @@
 
 ghost use Rattle.std.specs.Prelude.{◌≡◌, ◌+◌, ◌<◌, ◌≤◌, max, [], List, IfErr, IfOk, IsOk, OnOk, OnErr, Some, true};
 ghost use Rattle.std.specs.VecDeque.{deque_capacity, deque_len};
-ghost use Rattle.ob_types.specs.Change.{change_between};
 ghost use Rattle.ob_types.specs.Limits.{greatest_total};
+ghost use Rattle.ob_types.specs.Marks.{change_between};
 ghost use Rattle.ob_types.specs.declared.promise.Outcome.{Outcome};
 ghost use Rattle.ob_seq.specs.Unsent.{grown_room, room_for_one_more, spares, whole};
 ghost use Rattle.ob_seq.specs.Steps.Step.{pending_total};

@@ -1,7 +1,7 @@
 //! Drives: writers in threads of their own, and one transport beside them. The order of their records is open.
 
 ghost use Rattle.std.specs.Prelude.{IfOk};
-ghost use Rattle.ob_pool.specs.Config.{AreWithin};
+ghost use Rattle.ob_pool.specs.Drive.{AreWithin};
 
 use ob_players::buffers::Options;
 use ob_players::commands::command;

@@ -1,6 +1,6 @@
 //! The transport: passes over a recorded buffer of one thread, and over a desk that is lent.
 
-ghost use Rattle.ob_transport.specs.MayOffer.{MayOffer};
+ghost use Rattle.ob_transport.specs.Pass.{MayOffer};
 ghost use Rattle.ob_shared.specs.Opened.{IsNameOf};
 
 use crate::tests::host::Host;

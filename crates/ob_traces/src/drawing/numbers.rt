@@ -1,5 +1,5 @@
 ghost use Rattle.std.specs.Prelude.{◌≡◌, ◌+◌, ◌*◌, ◌<◌, ◌≤◌};
-ghost use Rattle.ob_traces.specs.Draw.Numbers.{greater, nearest};
+ghost use Rattle.ob_traces.specs.Draw.{greater, nearest};
 
 /// The greater of two numbers.
 pub fn greater(a: u32, b: u32) -> u32

@@ -1,8 +1,8 @@
 ghost use Rattle.std.specs.Prelude.{◌≡◌, ◌++◌, ◌≤◌, IfOk, OnOk, filter, length};
-ghost use Rattle.ob_traces.specs.Draw.Picture.{axes_pieces, before_pieces, behind_pieces, curve_pieces, end_pieces, mark_pieces, picture_pieces, shade_pieces};
-ghost use Rattle.ob_traces.specs.Draw.Picture.{below_pieces, beside_pieces, step_pieces, ticks_pieces, turn_pieces};
-ghost use Rattle.ob_traces.specs.Draw.Point.{points_of};
-ghost use Rattle.ob_script.specs.Reading.Script.{greatest_script};
+ghost use Rattle.ob_traces.specs.Draw.{axes_pieces, before_pieces, behind_pieces, curve_pieces, end_pieces};
+ghost use Rattle.ob_traces.specs.Draw.{mark_pieces, picture_pieces, shade_pieces, below_pieces, beside_pieces};
+ghost use Rattle.ob_traces.specs.Draw.{step_pieces, ticks_pieces, turn_pieces, points_of};
+ghost use Rattle.ob_script.specs.Reading.{greatest_script};
 
 use crate::drawing::drawn::{Drawn, push_each};
 use crate::drawing::numbers::greater;

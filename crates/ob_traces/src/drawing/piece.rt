@@ -1,6 +1,6 @@
 ghost use Rattle.std.specs.Prelude.{◌≡◌, ◌++◌, OnOk, string_bytes};
 ghost use Rattle.std.specs.List.{flat_map};
-ghost use Rattle.ob_traces.specs.Draw.Piece.{fixed_text, piece_text, tenths_text};
+ghost use Rattle.ob_traces.specs.Draw.{fixed_text, piece_text, tenths_text};
 
 use ob_script::push_number;
 use std::alloc::AllocError;

@@ -1,8 +1,8 @@
 ghost use Rattle.std.specs.Prelude.{◌≡◌, ◌≤◌, drop, filter, IfOk, length};
 ghost use Rattle.std.specs.List.{position, position_or_len, slice_index_or};
-ghost use Rattle.ob_traces.specs.Draw.Point.{point_at, points_of, stretch_at};
-ghost use Rattle.ob_script.specs.Reading.Script.{greatest_script};
-ghost use Rattle.ob_traces.specs.Traces.Line.{bare, shows_bytes};
+ghost use Rattle.ob_traces.specs.Draw.{point_at, points_of, stretch_at};
+ghost use Rattle.ob_script.specs.Reading.{greatest_script};
+ghost use Rattle.ob_traces.specs.Traces.{bare, shows_bytes};
 
 use crate::traces::line::TraceLine;
 use crate::traces::read::bare_line;

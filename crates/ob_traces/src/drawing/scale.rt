@@ -12,8 +12,8 @@ pub struct Scale {
 
 impl Scale {
     ghost use Rattle.std.specs.Prelude.{◌≡◌, ◌≤◌, length};
-    ghost use Rattle.ob_script.specs.Reading.Script.{greatest_script};
-    ghost use Rattle.ob_traces.specs.Draw.Scale.{scale_of, x_of, y_of};
+    ghost use Rattle.ob_script.specs.Reading.{greatest_script};
+    ghost use Rattle.ob_traces.specs.Draw.{scale_of, x_of, y_of};
 
     /// The scale for these lines and this high mark.
     pub fn new(shown: &[TraceLine], high: u32) -> Scale

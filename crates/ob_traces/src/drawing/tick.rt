@@ -1,7 +1,7 @@
 //! The numbers on an axis of a picture.
 
 ghost use Rattle.std.specs.Prelude.{◌≡◌, ◌≤◌, ◌*◌, IfOk, find, nat_lt};
-ghost use Rattle.ob_traces.specs.Draw.Tick.{round_numbers, step_of, ticks_of};
+ghost use Rattle.ob_traces.specs.Draw.{round_numbers, step_of, ticks_of};
 
 use std::alloc::{AllocError, Global};
 

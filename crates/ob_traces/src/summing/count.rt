@@ -1,6 +1,6 @@
 ghost use Rattle.std.specs.Prelude.{◌≡◌, count_by, IfOk, map};
 ghost use Rattle.std.specs.List.{range_with_len};
-ghost use Rattle.ob_traces.specs.Summary.Lines.{is_accepted, is_refused, is_refused_as, pending_behind, tells_of};
+ghost use Rattle.ob_traces.specs.Summary.{is_accepted, is_refused, is_refused_as, pending_behind, tells_of};
 
 use crate::traces::line::{Told, TraceLine};
 use ob_types::Change;

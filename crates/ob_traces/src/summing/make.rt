@@ -1,6 +1,6 @@
 ghost use Rattle.std.specs.Prelude.{◌≤◌, IfOk, length};
-ghost use Rattle.ob_script.specs.Reading.Script.{greatest_script};
-ghost use Rattle.ob_traces.specs.Summary.Summarizes.{Summarizes};
+ghost use Rattle.ob_script.specs.Reading.{greatest_script};
+ghost use Rattle.ob_traces.specs.Summary.{Summarizes};
 
 use crate::summing::count::{
     count_accepted, count_changes, count_refusals, count_refused, pending,

@@ -1,6 +1,6 @@
 ghost use Rattle.std.specs.Prelude.{◌≡◌, ◌≤◌, length};
-ghost use Rattle.ob_script.specs.Reading.Script.{greatest_script};
-ghost use Rattle.ob_traces.specs.Summary.Lines.{settlements_in};
+ghost use Rattle.ob_script.specs.Reading.{greatest_script};
+ghost use Rattle.ob_traces.specs.Summary.{settlements_in};
 
 use crate::traces::line::{Settled, TraceLine};
 

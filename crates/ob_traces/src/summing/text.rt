@@ -1,7 +1,7 @@
 ghost use Rattle.std.specs.Prelude.{◌≡◌, ◌+◌, ◌-◌, ◌++◌, OnOk, string_bytes};
 ghost use Rattle.std.specs.List.{flat_map};
-ghost use Rattle.ob_traces.specs.Summary.Text.{asked_text, from_text, levels_text, longest_text, peak_text, refusal_text};
-ghost use Rattle.ob_traces.specs.Summary.Text.{refused_text, settlements_text, stretch_text, summary_text};
+ghost use Rattle.ob_traces.specs.Summary.{asked_text, from_text, levels_text, longest_text, peak_text, refusal_text};
+ghost use Rattle.ob_traces.specs.Summary.{refused_text, settlements_text, stretch_text, summary_text};
 
 use crate::summing::make::Summary;
 use crate::summing::settlements::Settlements;

@@ -1,7 +1,6 @@
 ghost use Rattle.std.specs.Prelude.{◌≡◌, ◌+◌, ◌<◌, ◌≤◌, ℕ, length};
-ghost use Rattle.ob_script.specs.Reading.Script.{greatest_script};
-ghost use Rattle.ob_traces.specs.Summary.Lines.{total_at, unwritable_at};
-ghost use Rattle.ob_traces.specs.Summary.Top.{IsTop};
+ghost use Rattle.ob_script.specs.Reading.{greatest_script};
+ghost use Rattle.ob_traces.specs.Summary.{total_at, unwritable_at, IsTop};
 
 use crate::traces::line::TraceLine;
 

@@ -15,7 +15,7 @@ pub struct TraceLine {
 
 impl TraceLine {
     ghost use Rattle.std.specs.Prelude.{◌≡◌};
-    ghost use Rattle.ob_traces.specs.Traces.Line.{shows_bytes};
+    ghost use Rattle.ob_traces.specs.Traces.{shows_bytes};
 
     /// Whether it shows pending bytes and a word.
     pub(crate) fn shows_bytes(&self) -> bool

@@ -1,11 +1,11 @@
 ghost use Rattle.std.specs.Prelude.{◌≡◌, ◌+◌, ◌<◌, ◌≤◌, ◌∷◌, length, slice_index, option_map, IfSome, Some, None};
 ghost use Rattle.std.specs.Prelude.{if◌then◌else◌};
 ghost use Rattle.std.specs.List.{list_all};
-ghost use Rattle.ob_script.specs.Reading.Lines.{words_after, words_of};
-ghost use Rattle.ob_script.specs.Reading.Script.{greatest_script};
-ghost use Rattle.ob_traces.specs.Traces.Words.{behind_label, behind_lengths, is_hex, is_writable_by};
-ghost use Rattle.ob_traces.specs.Traces.Line.{bare, behind_change, behind_look, change_in, is_bare_line, levels_shown, line_shown, outcome_of, settled_in};
-ghost use Rattle.ob_traces.specs.Traces.Line.{is_cancelled, is_failed, is_success, told_by, told_by_word, trace_reading};
+ghost use Rattle.ob_script.specs.Reading.{words_after, words_of, greatest_script};
+ghost use Rattle.ob_traces.specs.Traces.{behind_label, behind_lengths, is_hex, is_writable_by, bare, behind_change};
+ghost use Rattle.ob_traces.specs.Traces.{behind_look, change_in, is_bare_line, levels_shown, line_shown, outcome_of};
+ghost use Rattle.ob_traces.specs.Traces.{settled_in, is_cancelled, is_failed, is_success, told_by, told_by_word};
+ghost use Rattle.ob_traces.specs.Traces.{trace_reading};
 
 use crate::traces::line::{Settled, Told, TraceLine};
 use crate::traces::words::{FirstOfTrace, labelled, next_word};

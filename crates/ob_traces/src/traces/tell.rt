@@ -1,8 +1,8 @@
 ghost use Rattle.std.specs.Prelude.{◌≡◌, ◌≢◌, ◌++◌, ◌≤◌, List, ℕ, IfErr, OnOk, length, string_bytes};
 ghost use Rattle.std.specs.Io.KnownBytes.{Appends};
-ghost use Rattle.ob_script.specs.Outcome.{IsWritingFault};
-ghost use Rattle.ob_script.specs.Reading.Script.{greatest_script};
-ghost use Rattle.ob_traces.specs.Traces.Telling.{TellsOfTrace};
+ghost use Rattle.ob_script.specs.Reading.{greatest_script};
+ghost use Rattle.ob_script.specs.Tracing.{IsWritingFault};
+ghost use Rattle.ob_traces.specs.Telling.{TellsOfTrace};
 ghost use Rattle.ob_traces.specs.declared.traces.line.TraceLine.{TraceLine};
 
 use crate::traces::line::TraceLine;

@@ -1,7 +1,7 @@
 ghost use Rattle.std.specs.Prelude.{◌≡◌, ◌≤◌, IfOk, length};
-ghost use Rattle.ob_script.specs.Outcome.{WentThrough, fault_told};
-ghost use Rattle.ob_script.specs.Reading.Script.{greatest_script, script_fault, script_lines};
-ghost use Rattle.ob_traces.specs.Traces.Line.{trace_grammar};
+ghost use Rattle.ob_script.specs.Reading.{greatest_script, script_fault, script_lines};
+ghost use Rattle.ob_script.specs.Tracing.{WentThrough, fault_told};
+ghost use Rattle.ob_traces.specs.Traces.{trace_grammar};
 
 use crate::traces::line::TraceLine;
 use crate::traces::read::read_trace_line;

@@ -1,6 +1,6 @@
 ghost use Rattle.std.specs.Prelude.{◌≡◌, ◌<◌, ◌≤◌, ◌∷◌, [], IfSome, MatchOption, length, slice_index};
-ghost use Rattle.ob_script.specs.Reading.Lines.{words_after};
-ghost use Rattle.ob_traces.specs.Traces.Words.{first_text, labelled, word_of_first};
+ghost use Rattle.ob_script.specs.Reading.{words_after};
+ghost use Rattle.ob_traces.specs.Traces.{first_text, labelled, word_of_first};
 
 use ob_script::{Range, first_word};
 

@@ -1,9 +1,8 @@
 -- What a script is said to be where its report comes to a fault of writing: nothing, since it was read.
 use Rattle.std.proofs.Common.{ℕ, List, Option, Err}
 use Rattle.std.specs.Prelude.{IsErrOf}
-use Rattle.ob_script.specs.Outcome.{IsWritingFault, WentThrough}
-use Rattle.ob_script.specs.Reading.Grammar.{Grammar}
-use Rattle.ob_script.specs.Tracing.Interprets.{GoesThrough}
+use Rattle.ob_script.specs.Reading.{Grammar}
+use Rattle.ob_script.specs.Tracing.{IsWritingFault, WentThrough, GoesThrough}
 use Rattle.ob_script.specs.declared.script_fault.ScriptFault.{ScriptFault}
 use Rattle.ob_script.specs.declared.script_fault.ScriptFault.TheVariants.{Line, Read, TooLong, Write, NoMemory}
 

@@ -3,7 +3,7 @@ use Rattle.std.proofs.Common.{◌≡◌, ◌∙◌, ◌++◌, List, [], ◌∷�
 use Rattle.std.proofs.lemmas.List.{append_assoc}
 use Rattle.ob_seq.specs.Rows.{Settings}
 use Rattle.ob_history.specs.declared.record.Record.{Record}
-use Rattle.ob_cli.specs.Drive.More.{line_behind, lines_from, lines_of}
+use Rattle.ob_cli.specs.More.{line_behind, lines_from, lines_of}
 
 -- one record more gives one line more
 lines_from-one_more : (settings : Settings) (before records : List Record) (one : Record) →

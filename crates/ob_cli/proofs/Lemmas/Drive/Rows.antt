@@ -4,10 +4,9 @@ use Rattle.std.specs.Fmt.{digits, padded_integral, char_count}
 use Rattle.ob_transport.specs.declared.script.SinkStep.TheVariants.{Take, Fail}
 use Rattle.ob_types.specs.declared.command.Command.TheVariants.{Write, Flush, Cancel, UserBit, SetMarks}
 use Rattle.ob_types.specs.declared.message.Message.TheVariants.{Block, Region, Other}
-use Rattle.ob_cli.specs.Drive.Script.{drive_grammar, most_after, most_passes, plans_of, steps_of}
-use Rattle.ob_cli.specs.Drive.Text.{hand_text}
-use Rattle.ob_script.specs.Tracing.Text.{number_line}
-use Rattle.ob_script.specs.Reading.Script.{script_fault, script_lines}
+use Rattle.ob_cli.specs.Drive.{drive_grammar, most_after, most_passes, plans_of, steps_of, hand_text}
+use Rattle.ob_script.specs.Reading.{script_fault, script_lines}
+use Rattle.ob_script.specs.Tracing.{number_line}
 use Rattle.ob_script.specs.declared.reading.fault.LineFault.TheVariants.{Misplaced, OutOfRange}
 
 -- a script with a line of each word, and a writer without lines

@@ -3,8 +3,8 @@ use Rattle.std.proofs.Common.{◌≡◌, ◌∙◌, ◌++◌, ℕ, false, List, 
 use Rattle.std.specs.Prelude.{filter_map, is_some, slice_get}
 use Rattle.std.specs.List.{cons_option}
 use Rattle.std.proofs.lemmas.List.Elements.{filter_map-append}
-use Rattle.ob_cli.specs.Drive.Script.{after_of, first_told, step_of, passes_of, writer_line_of}
-use Rattle.ob_cli.specs.Drive.Session.{HasKept}
+use Rattle.ob_cli.specs.Drive.{after_of, first_told, step_of, passes_of, writer_line_of}
+use Rattle.ob_cli.specs.Inside.{HasKept}
 use Rattle.ob_cli.specs.declared.drive.line.DriveLine.{DriveLine}
 use Rattle.ob_cli.specs.declared.drive.session.DriveSession.{DriveSession}
 

@@ -3,7 +3,7 @@ use Rattle.std.proofs.Common.{◌≡◌, ◌∙◌, ℕ, ◌+◌, ◌-◌, ◌%�
 use Rattle.std.specs.List.{slice_range}
 use Rattle.std.proofs.lemmas.List.{ext_get_or, get_or-drop, get_or-take, length-take-le}
 use Rattle.std.proofs.lemmas.List.FromFn.{get_or-map-range_with_len, length-map-range_with_len}
-use Rattle.ob_cli.specs.Run.Script.{block_bytes}
+use Rattle.ob_cli.specs.Run.{block_bytes}
 
 -- a block has as many bytes as it is asked to have, and each counts on from the first
 length-block_bytes : (first size : ℕ) → length (block_bytes first size) ≡ size

@@ -3,11 +3,10 @@ use Rattle.std.proofs.Common.{◌≡◌, ℕ, List, [], ◌∷◌, refl, codes, 
 use Rattle.std.specs.Prelude.{map}
 use Rattle.std.specs.Fmt.{digits, padded_integral, char_count}
 use Rattle.ob_history.specs.History.{new_history}
-use Rattle.ob_seq.specs.Word.{user_bits}
-use Rattle.ob_script.specs.Reading.Script.{script_lines, script_fault}
-use Rattle.ob_script.specs.Tracing.Language.{Language}
-use Rattle.ob_cli.specs.Run.Script.{run_language}
-use Rattle.ob_script.specs.Tracing.Trace.{trace_of}
+use Rattle.ob_seq.specs.State.{user_bits}
+use Rattle.ob_script.specs.Reading.{script_lines, script_fault}
+use Rattle.ob_script.specs.Tracing.{Language, trace_of}
+use Rattle.ob_cli.specs.Run.{run_language}
 use Rattle.ob_types.specs.declared.command.Command.TheVariants.{Write, Flush, Remove, RemoveWith, Progress, Cancel}
 use Rattle.ob_types.specs.declared.message.Message.TheVariants.{Region, Other}
 use Rattle.ob_cli.specs.declared.run.line.RunLine.{RunLine}

@@ -9,9 +9,8 @@ use Rattle.ob_history.specs.History.{History}
 use Rattle.ob_history.specs.Seen.{seen_now}
 use Rattle.ob_history.specs.declared.record.Record.{Record}
 use Rattle.ob_history.proofs.Calls.{answer_with_place, record_at_place}
-use Rattle.ob_cli.specs.Run.Call.{told_after, told_by}
-use Rattle.ob_cli.specs.Run.Text.{command_text}
-use Rattle.ob_cli.specs.Run.Script.{block_write, call_text, history_after_line, history_after_lines, line_trace}
+use Rattle.ob_cli.specs.Run.{told_after, told_by, command_text, block_write, call_text, history_after_line}
+use Rattle.ob_cli.specs.Run.{history_after_lines, line_trace}
 use Rattle.ob_cli.specs.declared.run.line.RunLine.{RunLine}
 use Rattle.ob_cli.specs.declared.run.line.RunLine.TheVariants.{Block}
 

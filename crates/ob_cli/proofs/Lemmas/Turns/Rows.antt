@@ -1,10 +1,9 @@
 -- The definitions of core scripts at worked rows, by computation.
 use Rattle.std.proofs.Common.{◌≡◌, [], ◌++◌, refl, codes, Some}
 use Rattle.std.specs.Fmt.{digits, padded_integral, char_count}
-use Rattle.ob_cli.specs.Turns.Script.{core_language}
-use Rattle.ob_script.specs.Tracing.Language.{Language}
-use Rattle.ob_script.specs.Reading.Script.{script_fault}
-use Rattle.ob_script.specs.Tracing.Trace.{trace_of}
+use Rattle.ob_cli.specs.Turns.{core_language}
+use Rattle.ob_script.specs.Reading.{script_fault}
+use Rattle.ob_script.specs.Tracing.{Language, trace_of}
 use Rattle.ob_cli.specs.declared.turns.line.CoreLine.{CoreLine}
 use Rattle.ob_script.specs.declared.reading.fault.LineFault.TheVariants.{Misplaced}
 

@@ -2,17 +2,14 @@
 use Rattle.std.proofs.Common.{◌≡◌, ◌∙◌, ◌++◌, Bool, true, false, cond, List, [], ◌∷◌, Option, None, Some, Result, Ok}
 use Rattle.std.proofs.Common.{Err, IfOk, refl, ap, sym}
 use Rattle.std.specs.Prelude.{option_map}
-use Rattle.ob_types.specs.WaterMark.{Marks}
-use Rattle.ob_core.specs.CoreState.{CoreState, WorldState}
-use Rattle.ob_core.specs.Beginning.{new_core}
-use Rattle.ob_core.specs.Owed.{sum_owed}
-use Rattle.ob_core.specs.Run.{core_after_all}
-use Rattle.ob_core.specs.Turn.{core_after}
+use Rattle.ob_types.specs.Marks.{Marks}
+use Rattle.ob_core.specs.Accounts.{sum_owed}
+use Rattle.ob_core.specs.Turn.{core_after_all, core_after}
+use Rattle.ob_core.specs.World.{CoreState, WorldState, new_core}
 use Rattle.ob_core.specs.declared.ask.Turn.{Turn}
 use Rattle.ob_core.specs.declared.lane_start.LaneStart.{LaneStart}
-use Rattle.ob_cli.specs.Turns.Script.{core_behind, core_last_text, has_any, has_lane, has_turn, lanes_of, turns_of}
-use Rattle.ob_cli.specs.Turns.Session.{HasPlayed, core_once}
-use Rattle.ob_cli.specs.Turns.Text.{end_text}
+use Rattle.ob_cli.specs.Inside.{HasPlayed, core_once}
+use Rattle.ob_cli.specs.Turns.{core_behind, core_last_text, has_any, has_lane, has_turn, lanes_of, turns_of, end_text}
 use Rattle.ob_cli.specs.declared.turns.line.CoreLine.{CoreLine}
 use Rattle.ob_cli.specs.declared.turns.line.CoreLine.TheVariants as line
 use Rattle.ob_cli.specs.declared.turns.session.CoreSession.{CoreSession}

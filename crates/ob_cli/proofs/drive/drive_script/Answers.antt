@@ -1,6 +1,6 @@
 use Rattle.std.proofs.Common.{rules, subst}
-use Rattle.ob_history.specs.Legal.{IsLegal}
-use Rattle.ob_cli.specs.Drive.Script.{drive_grammar}
+use Rattle.ob_history.specs.History.{IsLegal}
+use Rattle.ob_cli.specs.Drive.{drive_grammar}
 use Rattle.ob_cli.proofs.Lemmas.Drive.Ending.{unwritten}
 use Rattle.ob_cli.proofs.drive.drive_script.Goals as goal
 

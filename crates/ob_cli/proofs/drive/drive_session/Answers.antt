@@ -2,12 +2,10 @@ use Rattle.std.proofs.Common.{◌≡◌, None, Option, Some, refl, ap, subst, sy
 use Rattle.std.specs.Prelude.{Err, IfSome, IsErrOf, Ok}
 use Rattle.std.specs.Result.{is_ok}
 use Rattle.std.proofs.lemmas.Bool.{true≢false}
-use Rattle.ob_pool.specs.Config.{first_history}
-use Rattle.ob_pool.specs.Planning.PlansFault.{plans_fault}
+use Rattle.ob_pool.specs.Drive.{first_history, plans_fault}
 use Rattle.ob_pool.specs.declared.config.Config.{Config}
 use Rattle.ob_pool.specs.declared.fault.DriveFault.{DriveFault}
-use Rattle.ob_cli.specs.Drive.Report.{ComesTo}
-use Rattle.ob_cli.specs.Drive.Script.{plans_in}
+use Rattle.ob_cli.specs.Drive.{ComesTo, plans_in}
 use Rattle.ob_cli.specs.declared.request_fault.RequestFault.TheVariants.{Drive}
 use Rattle.ob_cli.proofs.drive.drive_session.Goals as goal
 

@@ -1,8 +1,8 @@
 use Rattle.std.proofs.Common.{take, length}
-use Rattle.ob_cli.specs.Drive.Script.{drive_grammar}
-use Rattle.ob_cli.specs.Drive.Session.{HasKept}
-use Rattle.ob_script.specs.Reading.Cursor.{StandsAt}
-use Rattle.ob_script.specs.Reading.Script.{script_lines}
+use Rattle.ob_cli.specs.Drive.{drive_grammar}
+use Rattle.ob_cli.specs.Inside.{HasKept}
+use Rattle.ob_script.specs.Inside.{StandsAt}
+use Rattle.ob_script.specs.Reading.{script_lines}
 use Rattle.ob_cli.proofs.drive.read_lines.Given as goal
 
 abbrev pub invariant-loop-cursor : goal.invariant-loop-cursor

@@ -1,5 +1,5 @@
 use Rattle.std.proofs.Common.{◌≡◌, ◌∷◌, map, drop}
-use Rattle.ob_core.specs.Beginning.{any_overlap, holders_of}
+use Rattle.ob_core.specs.World.{any_overlap, holders_of}
 use Rattle.ob_core.proofs.grant.has_bit_twice.Given as goal
 
 -- the mask of what is taken overlaps what is left as all masks overlap one another

@@ -1,5 +1,5 @@
-use Rattle.ob_core.specs.Beginning.{new_core, grant_of}
-use Rattle.ob_core.specs.Run.{core_after_all}
+use Rattle.ob_core.specs.Turn.{core_after_all}
+use Rattle.ob_core.specs.World.{new_core, grant_of}
 use Rattle.ob_core.proofs.LawLemmas.{BytesAgree-all, MarkAgrees-all, clear_at_rest}
 use Rattle.ob_core.proofs.laws.bit_zero_is_clear_at_rest.Goals as goal
 

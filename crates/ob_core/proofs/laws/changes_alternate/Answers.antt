@@ -1,4 +1,4 @@
-use Rattle.ob_core.specs.Beginning.{new_core}
+use Rattle.ob_core.specs.World.{new_core}
 use Rattle.ob_core.proofs.LawLemmas.{changes_go_to_and_fro}
 use Rattle.ob_core.proofs.laws.changes_alternate.Goals as goal
 

@@ -1,5 +1,5 @@
-use Rattle.ob_core.specs.Beginning.{new_core, grant_of}
-use Rattle.ob_core.specs.Run.{core_after_all}
+use Rattle.ob_core.specs.Turn.{core_after_all}
+use Rattle.ob_core.specs.World.{new_core, grant_of}
 use Rattle.ob_core.proofs.LawLemmas.{BytesAgree-all, MarkAgrees-all, set_above, clear_below}
 use Rattle.ob_core.proofs.laws.the_mark_stands.Goals as goal
 

@@ -1,6 +1,6 @@
 use Rattle.std.proofs.Common.{◌≡◌, ◌≤◌, ◌++◌, length, drop, vec_len}
 use Rattle.std.specs.Vec.{vec_capacity}
-use Rattle.ob_core.specs.Run.{answers_of, core_after_all, last_change_after}
+use Rattle.ob_core.specs.Turn.{answers_of, core_after_all, last_change_after}
 use Rattle.ob_core.proofs.player.play.Given as goal
 
 -- the answers so far and those to come are all, as are the turns so far and those to come, and there is room

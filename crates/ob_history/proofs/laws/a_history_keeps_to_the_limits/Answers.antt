@@ -2,7 +2,7 @@ use Rattle.std.proofs.Common.{◌≡◌, true, Some, sym, ap, ◌∙◌, take}
 use Rattle.std.specs.Prelude.{is_ok, slice_get}
 use Rattle.std.proofs.lemmas.Option.{slice_get-get_or}
 use Rattle.ob_seq.specs.Answer.{is_accepted}
-use Rattle.ob_history.specs.Accepted.{accepted_commands}
+use Rattle.ob_history.specs.History.{accepted_commands}
 use Rattle.ob_history.proofs.Histories.{legal_beginning}
 use Rattle.ob_history.proofs.Told.{legal_are_accepted}
 use Rattle.ob_history.proofs.laws.a_history_keeps_to_the_limits.Goals as goal

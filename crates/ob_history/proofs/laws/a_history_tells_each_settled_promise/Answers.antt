@@ -1,4 +1,4 @@
-use Rattle.ob_history.specs.Accepted.{accepted_commands}
+use Rattle.ob_history.specs.History.{accepted_commands}
 use Rattle.ob_history.proofs.Told.{legal_is_told}
 use Rattle.ob_history.proofs.laws.a_history_tells_each_settled_promise.Goals as goal
 

@@ -1,5 +1,5 @@
 use Rattle.std.proofs.Common.{◌+◌, ◌<◌, arith}
-use Rattle.ob_types.specs.Packed.{total_half}
+use Rattle.ob_types.specs.Marks.{total_half}
 use Rattle.ob_lanes.proofs.Packs.{raised_both}
 use Rattle.ob_lanes.proofs.both.after_add.Goals as goal
 

@@ -3,13 +3,12 @@ use Rattle.std.proofs.Common.{refl, sym, ap, ◌∙◌, arith}
 use Rattle.std.proofs.lemmas.List.Elements.{All-nil, All-cons}
 use Rattle.ob_types.specs.declared.reply.Change.{Change}
 use Rattle.ob_types.specs.declared.reply.Change.TheVariants.{Unwritable}
-use Rattle.ob_core.specs.Found.{change_found}
+use Rattle.ob_core.specs.Step.{change_found}
 use Rattle.ob_core.specs.declared.lane_step.LaneStep.{LaneStep}
 use Rattle.ob_core.specs.declared.lane_step.LaneStep.TheVariants.{Add, Load}
-use Rattle.ob_lanes.specs.Charge.{AreReads, ChangesDebt, IsOneStep, debt_of}
-use Rattle.ob_lanes.specs.Facts.{one_step}
+use Rattle.ob_lanes.specs.Calls.{AreReads, ChangesDebt, IsOneStep, debt_of, are_held}
+use Rattle.ob_lanes.specs.Run.{one_step}
 use Rattle.ob_lanes.specs.RunningLane.{RunningLane}
-use Rattle.ob_lanes.specs.Split.{are_held}
 use Rattle.ob_lanes.specs.Worked.{runs_alone, runs_beside}
 use Rattle.ob_lanes.specs.declared.facts.Made.{Made}
 use Rattle.ob_lanes.specs.declared.facts.Move.{Move}

@@ -4,19 +4,16 @@ use Rattle.std.specs.Int.{bit_at}
 use Rattle.std.specs.List.{All, AllPairs, slice_get}
 use Rattle.std.proofs.lemmas.List.{append-nil, same_from_push}
 use Rattle.atomic_table.specs.Seated.{TableId}
-use Rattle.ob_core.specs.CoreState.{CoreState}
-use Rattle.ob_core.specs.Found.{value_found}
-use Rattle.ob_core.specs.Beginning.{one_lane}
-use Rattle.ob_core.specs.Owed.{owed_by}
+use Rattle.ob_core.specs.World.{CoreState, one_lane}
+use Rattle.ob_core.specs.Step.{value_found}
+use Rattle.ob_core.specs.Accounts.{owed_by}
 use Rattle.ob_core.specs.declared.lane.Lane.{Lane}
 use Rattle.ob_core.specs.declared.lane_step.LaneStep.TheVariants.{Load}
 use Rattle.ob_core.proofs.AccountsLemmas.{total-le-room, total-le-outside, shown-held}
-use Rattle.ob_lanes.specs.Facts.{one_step}
-use Rattle.ob_lanes.specs.Run.{Leads, own_steps}
+use Rattle.ob_lanes.specs.Run.{one_step, Leads, own_steps, names_in, BeginsWith}
 use Rattle.ob_lanes.specs.declared.facts.Move.{Move}
 use Rattle.ob_lanes.specs.declared.facts.Move.TheVariants.{Steps, Divides, Merges}
 use Rattle.ob_core.specs.Parts.{spent_lane}
-use Rattle.ob_lanes.specs.Names.{names_in}
 use Rattle.ob_lanes.specs.declared.facts.Ended.{Ended}
 use Rattle.ob_lanes.specs.Worked.{joining, second_half}
 use Rattle.ob_lanes.specs.Worked.{grant, half, met, with_bits, lone, bit_2_run, first_run, has_set, shows_bit_2}
@@ -24,9 +21,8 @@ use Rattle.ob_lanes.specs.declared.facts.Made.{Made}
 use Rattle.ob_lanes.proofs.KeptAccounts.{accounts_after_run, not_opened}
 use Rattle.ob_lanes.proofs.WorkedRuns.{alone, set_in_run, met_in_run, way, whole, joined_in_run, begins_none}
 use Rattle.ob_lanes.proofs.Runs.{begins_itself, begins_one}
-use Rattle.ob_lanes.specs.Begins.{BeginsWith}
 use Rattle.std.proofs.lemmas.List.Elements.{All-cons, All-head, All-tail, All-nil}
-use Rattle.ob_lanes.specs.InRun.{EndedAt, EndedIn, EndsRun}
+use Rattle.ob_lanes.specs.RunningLane.{EndedAt, EndedIn, EndsRun}
 use Rattle.ob_lanes.proofs.worked.worked_places.Goals as goal
 
 -- both halves owe 60

@@ -4,10 +4,10 @@ use Rattle.std.proofs.lemmas.List.Elements.{All-head}
 use Rattle.std.proofs.lemmas.Nat.Bits.{bit_at-lt}
 use Rattle.ob_types.specs.declared.reply.Change.TheVariants.{Unwritable}
 use Rattle.ob_core.specs.Bits.{with_bit}
-use Rattle.ob_core.specs.Found.{change_found}
+use Rattle.ob_core.specs.Step.{change_found}
 use Rattle.ob_core.specs.declared.lane_step.LaneStep.TheVariants.{SetBit}
 use Rattle.ob_core.proofs.BitLemmas.{MakeUp-and}
-use Rattle.ob_lanes.specs.Begins.{BeginsWith}
+use Rattle.ob_lanes.specs.Run.{BeginsWith}
 use Rattle.ob_lanes.specs.Worked.{with_bits, bit_2_run, shows_bit_2}
 use Rattle.ob_lanes.specs.declared.facts.Facts.{Facts}
 use Rattle.ob_lanes.specs.declared.facts.Made.{Made}

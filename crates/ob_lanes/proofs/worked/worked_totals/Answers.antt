@@ -1,12 +1,11 @@
 use Rattle.std.proofs.Common.{◌≡◌, ◌≤◌, ◌%◌, ◌+◌, ◌++◌, ℕ, List, [], None, refl, ap, arith}
 use Rattle.std.specs.List.{sum_by}
-use Rattle.ob_types.specs.Packed.{total_half}
-use Rattle.ob_core.specs.Owed.{owed_by}
+use Rattle.ob_types.specs.Marks.{total_half}
+use Rattle.ob_core.specs.Accounts.{owed_by}
 use Rattle.ob_core.specs.declared.lane_step.LaneStep.TheVariants.{Load}
-use Rattle.ob_lanes.specs.Facts.{one_step}
-use Rattle.ob_lanes.specs.Read.{IsTotalRead}
-use Rattle.ob_lanes.specs.RunningLane.{RunningLane, room_outside}
-use Rattle.ob_lanes.specs.Sees.{Sees}
+use Rattle.ob_lanes.specs.Calls.{IsTotalRead}
+use Rattle.ob_lanes.specs.Run.{one_step}
+use Rattle.ob_lanes.specs.RunningLane.{RunningLane, room_outside, Sees}
 use Rattle.ob_lanes.specs.Worked.{has_added, runs_alone, shows_mark}
 use Rattle.ob_lanes.specs.declared.facts.Made.{Made}
 use Rattle.ob_lanes.specs.declared.facts.Move.{Move}

@@ -2,22 +2,19 @@ use Rattle.std.proofs.Common.{◌≡◌, ℕ, ◌+◌, ◌++◌, [], ◌∷◌, 
 use Rattle.std.specs.List.{All}
 use Rattle.std.proofs.lemmas.List.Elements.{All-contains, Contains-push}
 use Rattle.std.proofs.lemmas.Result.{IfErr-weaker, IfOk-weaker}
-use Rattle.ob_types.specs.WaterMark.{Marks}
-use Rattle.ob_core.specs.Beginning.{Grant}
+use Rattle.ob_types.specs.Marks.{Marks}
+use Rattle.ob_core.specs.World.{Grant}
 use Rattle.ob_seq.specs.Rows.{Settings}
-use Rattle.ob_history.specs.Beginning.{IsBeginning}
-use Rattle.ob_history.specs.Legal.{IsLegal}
-use Rattle.ob_history.specs.Own.{records_of}
+use Rattle.ob_history.specs.History.{IsBeginning, IsLegal}
+use Rattle.ob_history.specs.Receipts.{records_of}
 use Rattle.ob_shared.specs.Finish.{HandsInAll}
 use Rattle.ob_shared.specs.Share.{Handed, ShareValue}
 use Rattle.ob_shared.specs.Opened.{Opened}
-use Rattle.ob_transport.specs.SentBytes.{sent_bytes}
-use Rattle.ob_transport.specs.SentUnits.{sent_units}
-use Rattle.ob_pool.specs.Report.Counted.{IsCounted}
-use Rattle.ob_pool.specs.DriveFault.{ComesOfWork}
-use Rattle.ob_pool.specs.Report.TellsOf.{AreAtRest}
-use Rattle.ob_pool.specs.Threads.Job.{IsNumbered}
-use Rattle.ob_pool.specs.Report.HandedIn.{HaveHandedIn}
+use Rattle.ob_transport.specs.Sent.{sent_bytes, sent_units}
+use Rattle.ob_pool.specs.Drive.{ComesOfWork}
+use Rattle.ob_pool.specs.Inside.{HaveHandedIn}
+use Rattle.ob_pool.specs.Report.{IsCounted, AreAtRest}
+use Rattle.ob_pool.specs.Threads.{IsNumbered}
 use Rattle.ob_pool.specs.declared.report.Report.{Report}
 use Rattle.ob_pool.proofs.Histories.Ending.{HaveEnded, all_carried, callers_told, failings_told}
 use Rattle.ob_pool.proofs.Jobs.Faults.{comes_of_more}

@@ -1,5 +1,5 @@
 use Rattle.std.proofs.Common.{◌≡◌, drop}
-use Rattle.ob_pool.specs.Planning.PlansFault.{bad_plan_from}
+use Rattle.ob_pool.specs.Drive.{bad_plan_from}
 use Rattle.ob_pool.proofs.planning.bad_plan.Given as goal
 
 abbrev pub invariant-loop-plan : goal.invariant-loop-plan

@@ -1,6 +1,6 @@
 use Rattle.std.proofs.Common.{rules, ◌≡◌, length, true, false, ap, ◌∙◌, arith}
-use Rattle.ob_pool.specs.Planning.Plan.{bad_step}
-use Rattle.ob_pool.specs.Planning.Runs.{commands_of}
+use Rattle.ob_pool.specs.Drive.{bad_step}
+use Rattle.ob_pool.specs.Inside.{commands_of}
 use Rattle.ob_pool.proofs.Plans.BadSteps.{first_bad, good_more, is_bad, within_all}
 use Rattle.ob_pool.proofs.Plans.Runs.{some_of}
 use Rattle.ob_pool.proofs.planning.bad_step.Goals as goal

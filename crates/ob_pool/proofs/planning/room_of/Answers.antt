@@ -1,6 +1,6 @@
 use Rattle.std.proofs.Common.{max, take, sym, ap, ◌∙◌}
-use Rattle.ob_pool.specs.Planning.HandOff.{room_of}
-use Rattle.ob_pool.specs.Planning.Runs.{commands_of}
+use Rattle.ob_pool.specs.Drive.{room_of}
+use Rattle.ob_pool.specs.Inside.{commands_of}
 use Rattle.ob_pool.proofs.Plans.Rooms.{greater, room_more}
 use Rattle.ob_pool.proofs.Plans.Runs.{some_of}
 use Rattle.ob_pool.proofs.planning.room_of.Goals as goal

@@ -1,6 +1,6 @@
 use Rattle.std.proofs.Common.{◌≡◌, take}
-use Rattle.ob_pool.specs.Planning.HandOff.{room_of}
-use Rattle.ob_pool.specs.Planning.Runs.{commands_of}
+use Rattle.ob_pool.specs.Drive.{room_of}
+use Rattle.ob_pool.specs.Inside.{commands_of}
 use Rattle.ob_pool.proofs.planning.room_of.Given as goal
 
 abbrev pub invariant-loop-run : goal.invariant-loop-run

@@ -1,6 +1,6 @@
 use Rattle.std.proofs.Common.{◌≡◌, length, map, take}
-use Rattle.ob_core.specs.Limits.{most_lanes}
-use Rattle.ob_pool.specs.Planning.HandOff.{room_of, rooms_of}
+use Rattle.ob_core.specs.World.{most_lanes}
+use Rattle.ob_pool.specs.Drive.{room_of, rooms_of}
 use Rattle.ob_pool.proofs.planning.with_rooms.Given as goal
 
 abbrev pub invariant-loop-plan : goal.invariant-loop-plan

@@ -1,7 +1,7 @@
 use Rattle.std.proofs.Common.{rules}
 use Rattle.std.specs.Prelude.{IfErr}
 use Rattle.std.proofs.lemmas.Result.{IfErr-weaker}
-use Rattle.ob_pool.specs.DriveFault.{ComesOfWork}
+use Rattle.ob_pool.specs.Drive.{ComesOfWork}
 use Rattle.ob_pool.proofs.Jobs.Faults.{comes_of_more}
 use Rattle.ob_pool.proofs.threads.run.Goals as goal
 

@@ -3,10 +3,9 @@ use Rattle.std.proofs.Common.{◌≡◌, ◌∙◌, ℕ, zero, suc, ◌+◌, ◌
 use Rattle.std.proofs.Common.{Err, Some, None, refl, ap, sym, subst, arith, append-nil, add-one, eqb, take-append-drop, cond}
 use Rattle.std.specs.Prelude.{map}
 use Rattle.std.proofs.lemmas.Bool.{both_ways, eqb-true}
-use Rattle.ob_script.specs.Reading.Cursor.{EndsAt, IsFollowed, StandsAt}
-use Rattle.ob_script.specs.Reading.Grammar.{Grammar}
-use Rattle.ob_script.specs.Reading.Lines.{lines_of}
-use Rattle.ob_script.specs.Reading.Script.{all_placed, before_fault, first_fault, placed, readings_behind, script_lines}
+use Rattle.ob_script.specs.Inside.{EndsAt, IsFollowed, StandsAt}
+use Rattle.ob_script.specs.Reading.{Grammar, lines_of, all_placed, before_fault, first_fault, placed, readings_behind}
+use Rattle.ob_script.specs.Reading.{script_lines}
 use Rattle.ob_script.specs.declared.reading.fault.LineFault.{LineFault}
 use Rattle.ob_script.specs.declared.reading.fault.LineFault.TheVariants.{Misplaced}
 

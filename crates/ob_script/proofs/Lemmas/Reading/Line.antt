@@ -3,7 +3,7 @@ use Rattle.std.proofs.Common.{◌≡◌, ℕ, ◌<◌, ◌≤◌, List, length, 
 use Rattle.std.proofs.Math.Path.{fun_ext}
 use Rattle.std.specs.Prelude.{ok_or}
 use Rattle.std.proofs.lemmas.Bool.{lt-ltb, le-ltb}
-use Rattle.ob_script.specs.Reading.Numbers.{all_numbers_in, asked_by, numbers_in, HoldsNumbers}
+use Rattle.ob_script.specs.Reading.{all_numbers_in, asked_by, numbers_in, HoldsNumbers}
 use Rattle.ob_script.specs.declared.reading.range.Range.{Range}
 use Rattle.ob_script.specs.declared.reading.fault.LineFault.{LineFault}
 use Rattle.ob_script.specs.declared.reading.fault.LineFault.TheVariants.{TooFewWords, TooManyWords, Misplaced}

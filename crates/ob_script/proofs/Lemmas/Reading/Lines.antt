@@ -5,7 +5,7 @@ use Rattle.std.specs.List.{onto_first, position, position_or_len}
 use Rattle.std.proofs.lemmas.List.Sums.{prefix_len-le-length, passes_at_first}
 use Rattle.std.proofs.lemmas.List.Splits.{length-slice_split}
 use Rattle.std.proofs.lemmas.Bool.{cases_Bool, cases_lt, lt-ltb, eqb-true}
-use Rattle.ob_script.specs.Reading.Lines.{lines_of, words_of, words_after}
+use Rattle.ob_script.specs.Reading.{lines_of, words_of, words_after}
 
 -- if no byte is found, the place is the end
 pub position-None : {X : Type 0} (p : X → Bool) (s : List X) → position p s ≡ None → length s ≡ position_or_len p s

@@ -6,8 +6,7 @@ use Rattle.std.specs.Prelude.{if◌then◌else◌}
 use Rattle.std.specs.List.{list_all, onto_first}
 use Rattle.std.specs.Char.{is_ascii_digit, digit_value}
 use Rattle.std.specs.Str.Parse.{AllDigits, digits_value}
-use Rattle.ob_script.specs.Reading.Lines.{words_of}
-use Rattle.ob_script.specs.Reading.Numbers.{all_numbers_in, before_numbers, holds, is_number, number_in, numbers_in}
+use Rattle.ob_script.specs.Reading.{words_of, all_numbers_in, before_numbers, holds, is_number, number_in, numbers_in}
 use Rattle.ob_script.specs.declared.reading.range.Range.{Range}
 use Rattle.ob_script.specs.declared.reading.fault.LineFault.{LineFault}
 use Rattle.ob_script.specs.declared.reading.fault.LineFault.TheVariants.{OutOfRange}

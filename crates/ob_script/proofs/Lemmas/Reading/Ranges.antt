@@ -3,8 +3,8 @@ use Rattle.std.proofs.Common.{ℕ, zero, suc, ◌≤◌, List, [], ◌∷◌, le
 use Rattle.std.proofs.Common.{inl, inr}
 use Rattle.std.specs.Prelude.{nat_lt}
 use Rattle.std.specs.Str.Parse.{digits_value}
-use Rattle.ob_script.specs.Reading.Numbers.{all_numbers_in, before_numbers, greatest_at, holds, is_number, number_in, numbers_in}
-use Rattle.ob_script.specs.Reading.Numbers.{AreWithin, HoldsNumbers}
+use Rattle.ob_script.specs.Reading.{all_numbers_in, before_numbers, greatest_at, holds, is_number, number_in}
+use Rattle.ob_script.specs.Reading.{numbers_in, AreWithin, HoldsNumbers}
 use Rattle.ob_script.specs.declared.reading.range.Range.{Range}
 use Rattle.ob_script.specs.declared.reading.fault.LineFault.{LineFault}
 use Rattle.std.proofs.lemmas.Bool.{cases_Bool}

@@ -2,7 +2,7 @@
 use Rattle.std.proofs.Common.{◌≡◌, ◌∙◌, ℕ, ◌+◌, ◌/◌, ◌%◌, ◌<◌, ◌≤◌, List, [], ◌∷◌, ◌++◌, append_assoc, ap, arith, refl, sym}
 use Rattle.std.proofs.lemmas.Fmt.{decimal_digit, decimal_step}
 use Rattle.std.specs.Fmt.{decimal}
-use Rattle.ob_script.specs.Tracing.Text.{two_digits}
+use Rattle.ob_script.specs.Tracing.{two_digits}
 
 -- a number from 10 to 99 has two
 pub decimal-two : (number : ℕ) → 10 ≤ number → number < 100 → decimal number ≡ two_digits number

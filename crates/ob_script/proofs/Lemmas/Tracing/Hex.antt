@@ -4,7 +4,7 @@ use Rattle.std.proofs.Common.{append-nil, append_assoc, ap, arith, inl, inr, len
 use Rattle.std.specs.Fmt.{char_count, digit_glyph, digits, digits_onto, padded_integral}
 use Rattle.std.specs.Prelude.{◌==◌, codes}
 use Rattle.std.proofs.lemmas.Bool.{cases_Bool, eqb-true}
-use Rattle.ob_script.specs.Tracing.Text.{eight_hex}
+use Rattle.ob_script.specs.Tracing.{eight_hex}
 
 -- the last *n* hexadecimal digits of a number, zeros if it has fewer, and then others
 abbrev pub hex_onto : ℕ → ℕ → List ℕ → List ℕ

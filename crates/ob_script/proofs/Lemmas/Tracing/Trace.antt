@@ -3,12 +3,11 @@ use Rattle.std.proofs.Common.{◌≡◌, ◌∙◌, ℕ, ◌+◌, ◌++◌, List
 use Rattle.std.proofs.Common.{take, drop, Option, None, Some, ap, sym, arith, append_assoc}
 use Rattle.std.proofs.Common.{append-nil, subst, take_all}
 use Rattle.std.specs.Io.KnownBytes.{Keeps, append_known}
-use Rattle.ob_script.specs.Tracing.Language.{Language, Texts}
-use Rattle.ob_script.specs.Reading.Script.{script_fault, script_lines}
-use Rattle.ob_script.specs.Tracing.Ending.{HasTraced}
-use Rattle.ob_script.specs.Reading.Cursor.{EndsAt}
+use Rattle.ob_script.specs.Inside.{HasTraced, EndsAt}
+use Rattle.ob_script.specs.Reading.{script_fault, script_lines}
+use Rattle.ob_script.specs.Tracing.{Language, Texts, text_unless, trace_behind, trace_of, trace_of_first}
+use Rattle.ob_script.specs.Tracing.{trace_of_lines}
 use Rattle.ob_script.proofs.Lemmas.Reading.Cursor.{take-one_more}
-use Rattle.ob_script.specs.Tracing.Trace.{text_unless, trace_behind, trace_of, trace_of_first, trace_of_lines}
 use Rattle.ob_script.specs.declared.reading.fault.LineFault.{LineFault}
 
 -- the trace of two runs of lines, one after the other

@@ -1,5 +1,5 @@
 use Rattle.std.proofs.Common.{◌≡◌, [], ◌∷◌, refl, ap}
-use Rattle.ob_seq.specs.Word.{user_bits}
+use Rattle.ob_seq.specs.State.{user_bits}
 use Rattle.ob_history.specs.declared.glance.Glance.{Glance}
 use Rattle.ob_history.specs.declared.record.Record.{Record}
 use Rattle.ob_shared.specs.Worked.{flushed, removed, written}

@@ -4,8 +4,8 @@ use Rattle.std.proofs.lemmas.List.{reverse-append, take_more}
 use Rattle.std.specs.List.{prefix_len, suffix_len}
 use Rattle.std.specs.Option.{option_map_or}
 use Rattle.std.specs.Prelude.{find}
-use Rattle.ob_traces.specs.Summary.Lines.{is_unwritable, pending_behind, unwritable_at}
-use Rattle.ob_traces.specs.Traces.Line.{shows_bytes}
+use Rattle.ob_traces.specs.Summary.{is_unwritable, pending_behind, unwritable_at}
+use Rattle.ob_traces.specs.Traces.{shows_bytes}
 use Rattle.ob_traces.specs.declared.traces.line.TraceLine.{TraceLine}
 
 -- the lines that stand together up to a line, by what it shows

@@ -1,4 +1,4 @@
-use Rattle.ob_transport.specs.Standing.{standing}
+use Rattle.ob_transport.specs.Pass.{standing}
 use Rattle.ob_transport.proofs.Booked.{book_sends}
 use Rattle.ob_transport.proofs.Offers.{accepted_there}
 use Rattle.ob_transport.proofs.booking.book.Goals as goal

@@ -1,7 +1,6 @@
 use Rattle.std.proofs.Common.{arith, rules, inl, inr, sym, ◌∙◌, subst}
 use Rattle.std.proofs.lemmas.Result.{err_from_is_err_and}
-use Rattle.ob_transport.specs.Drains.{GoesOn}
-use Rattle.ob_transport.specs.Standing.{standing}
+use Rattle.ob_transport.specs.Pass.{GoesOn, standing}
 use Rattle.ob_transport.specs.declared.draining.Drained.{Drained}
 use Rattle.ob_transport.specs.declared.fault.Pass.{Pass}
 use Rattle.ob_transport.specs.declared.fault.PassFault.TheVariants.{Unbooked}

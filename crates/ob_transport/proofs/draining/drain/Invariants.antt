@@ -1,7 +1,5 @@
 use Rattle.std.proofs.Common.{◌≡◌}
-use Rattle.ob_transport.specs.Drains.{Passes}
-use Rattle.ob_transport.specs.GrowAlike.{GrowAlike}
-use Rattle.ob_transport.specs.Standing.{standing}
+use Rattle.ob_transport.specs.Pass.{Passes, GrowAlike, standing}
 use Rattle.ob_transport.proofs.draining.drain.Given as goal
 
 abbrev pub invariant-loop-turn : goal.invariant-loop-turn

@@ -1,6 +1,6 @@
 use Rattle.std.proofs.Common.{refl}
-use Rattle.ob_transport.specs.Offer.{IsOffered, offer_of}
-use Rattle.ob_transport.specs.Standing.{standing}
+use Rattle.ob_transport.specs.Inside.{IsOffered, offer_of}
+use Rattle.ob_transport.specs.Pass.{standing}
 use Rattle.ob_transport.proofs.Asked.{clears_unasked, unasked}
 use Rattle.ob_transport.proofs.sending.act.Goals as goal
 

@@ -1,7 +1,7 @@
 use Rattle.std.proofs.Common.{rules}
 use Rattle.std.specs.Prelude.{Err}
-use Rattle.ob_transport.specs.Offer.{offer_of}
-use Rattle.ob_transport.specs.Standing.{standing}
+use Rattle.ob_transport.specs.Inside.{offer_of}
+use Rattle.ob_transport.specs.Pass.{standing}
 use Rattle.ob_transport.specs.declared.fault.PassFault.TheVariants.{Unbooked}
 use Rattle.ob_transport.proofs.Asked.{asked_also, offered_stands}
 use Rattle.ob_transport.proofs.Offers.{accepted_there, ends_there, full_of_offer, idle_of_offer, offer_there}

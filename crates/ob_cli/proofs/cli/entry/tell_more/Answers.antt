@@ -1,7 +1,6 @@
 use Rattle.std.proofs.Common.{◌≤◌, length, subst, sym}
-use Rattle.ob_history.specs.History.{most_records}
-use Rattle.ob_history.specs.Legal.{IsLegal}
-use Rattle.ob_cli.specs.Cli.Options.{first_history}
+use Rattle.ob_history.specs.History.{most_records, IsLegal}
+use Rattle.ob_cli.specs.Run.{first_history}
 use Rattle.ob_cli.proofs.cli.entry.tell_more.Goals as goal
 
 pub summary_of-requires : goal.summary_of-requires

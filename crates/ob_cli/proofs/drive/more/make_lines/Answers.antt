@@ -3,10 +3,10 @@ use Rattle.std.proofs.lemmas.List.{take_all}
 use Rattle.ob_seq.specs.Answer.{commands_after}
 use Rattle.ob_seq.specs.Looks.{look_after}
 use Rattle.ob_seq.specs.Pending.{StandsFor}
-use Rattle.ob_history.specs.Accepted.{accepted_commands}
+use Rattle.ob_history.specs.History.{accepted_commands}
 use Rattle.ob_history.proofs.Histories.{accepted_with_next, found_at}
-use Rattle.ob_cli.specs.Cli.Options.{first_history}
-use Rattle.ob_cli.specs.Drive.More.{line_behind, lines_of, shown_with}
+use Rattle.ob_cli.specs.More.{line_behind, lines_of, shown_with}
+use Rattle.ob_cli.specs.Run.{first_history}
 use Rattle.ob_traces.specs.declared.traces.line.TraceLine.{TraceLine}
 use Rattle.ob_cli.proofs.Lemmas.Drive.More.{lines_of-one_more}
 use Rattle.ob_cli.proofs.drive.more.make_lines.Goals as goal

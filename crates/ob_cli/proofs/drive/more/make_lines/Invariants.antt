@@ -1,8 +1,8 @@
 use Rattle.std.proofs.Common.{◌≡◌, length, take}
 use Rattle.ob_seq.specs.Pending.{StandsFor}
-use Rattle.ob_history.specs.Accepted.{accepted_commands}
-use Rattle.ob_cli.specs.Cli.Options.{first_history}
-use Rattle.ob_cli.specs.Drive.More.{lines_of}
+use Rattle.ob_history.specs.History.{accepted_commands}
+use Rattle.ob_cli.specs.More.{lines_of}
+use Rattle.ob_cli.specs.Run.{first_history}
 use Rattle.ob_cli.proofs.drive.more.make_lines.Given as goal
 
 abbrev pub invariant-loop-index : goal.invariant-loop-index

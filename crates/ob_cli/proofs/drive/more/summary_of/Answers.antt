@@ -1,6 +1,6 @@
 use Rattle.std.proofs.Common.{◌∙◌, subst}
 use Rattle.std.specs.Prelude.{IfOk}
-use Rattle.ob_traces.specs.Summary.Summarizes.{Summarizes}
+use Rattle.ob_traces.specs.Summary.{Summarizes}
 use Rattle.ob_cli.proofs.drive.more.summary_of.Goals as goal
 
 pub returns : goal.returns

@@ -1,6 +1,6 @@
 use Rattle.std.proofs.Common.{arith, refl}
 use Rattle.std.proofs.lemmas.List.FromFn.{map-range_with_len_more}
-use Rattle.ob_cli.specs.Drive.Script.{plan_of}
+use Rattle.ob_cli.specs.Drive.{plan_of}
 use Rattle.ob_cli.proofs.drive.plans.make_plans.Goals as goal
 
 pub loop-writer-preserved : goal.loop-writer-preserved

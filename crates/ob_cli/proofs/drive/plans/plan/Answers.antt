@@ -1,6 +1,6 @@
 use Rattle.std.proofs.Common.{◌∙◌, ap}
 use Rattle.std.proofs.lemmas.List.{take_all}
-use Rattle.ob_cli.specs.Drive.Script.{plan_of}
+use Rattle.ob_cli.specs.Drive.{plan_of}
 use Rattle.ob_cli.proofs.drive.plans.plan.Goals as goal
 
 pub returns : goal.returns

@@ -1,5 +1,5 @@
 use Rattle.std.proofs.Common.{◌≡◌, take}
-use Rattle.ob_cli.specs.Drive.Script.{plan_of}
+use Rattle.ob_cli.specs.Drive.{plan_of}
 use Rattle.ob_cli.proofs.drive.plans.plan.Given as goal
 
 abbrev pub invariant-loop-line : goal.invariant-loop-line

@@ -1,6 +1,6 @@
 use Rattle.std.proofs.Common.{◌≡◌, ◌++◌, take, string_bytes}
 use Rattle.std.specs.List.{flat_map}
-use Rattle.ob_cli.specs.Run.Text.{settlement_text}
+use Rattle.ob_cli.specs.Run.{settlement_text}
 use Rattle.ob_cli.proofs.run.text.push_settlements.Given as goal
 
 abbrev pub invariant-loop-id : goal.invariant-loop-id

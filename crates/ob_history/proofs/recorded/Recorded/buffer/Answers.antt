@@ -1,6 +1,5 @@
 use Rattle.std.proofs.Common.{rules, subst}
-use Rattle.ob_history.specs.History.{History}
-use Rattle.ob_history.specs.Legal.{IsLegal}
+use Rattle.ob_history.specs.History.{History, IsLegal}
 use Rattle.ob_history.proofs.recorded.Recorded.buffer.Goals as goal
 
 pub returns : goal.returns

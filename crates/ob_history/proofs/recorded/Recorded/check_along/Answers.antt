@@ -1,7 +1,6 @@
 use Rattle.std.proofs.Common.{subst, sym, ap, ◌∙◌, rules}
 use Rattle.ob_seq.specs.Rows.{Settings}
-use Rattle.ob_history.specs.History.{History}
-use Rattle.ob_history.specs.Legal.{IsLegal}
+use Rattle.ob_history.specs.History.{History, IsLegal}
 use Rattle.ob_history.proofs.recorded.Recorded.check_along.Goals as goal
 
 -- Named for the must-fail edits that fail here: `search` finds it unasked (CONTRIBUTING.md).

@@ -1,6 +1,6 @@
 use Rattle.std.proofs.Common.{take}
 use Rattle.std.specs.List.{All}
-use Rattle.ob_history.specs.Replay.{IsReplay}
+use Rattle.ob_history.specs.Inside.{IsReplay}
 use Rattle.ob_history.specs.Seen.{IsSeenIn}
 use Rattle.ob_history.proofs.recorded.Recorded.first_foreign_seen.Given as goal
 

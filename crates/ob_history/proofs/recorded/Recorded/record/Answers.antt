@@ -6,10 +6,9 @@ use Rattle.std.proofs.Common.{◌≡◌, true, false, [], ◌∷◌, ◌++◌, l
 use Rattle.std.proofs.lemmas.Bool.{ne_eqb}
 use Rattle.ob_seq.specs.Answer.{answer_to, commands_after, commands_with}
 use Rattle.ob_seq.specs.Pending.{StandsFor}
-use Rattle.ob_history.specs.Accepted.{accepted_commands}
 use Rattle.ob_history.specs.Call.{history_after, is_full, with_record}
+use Rattle.ob_history.specs.History.{accepted_commands, IsLegal}
 use Rattle.ob_history.specs.Inside.{history_of, settings_of}
-use Rattle.ob_history.specs.Legal.{IsLegal}
 use Rattle.ob_history.proofs.Calls.{after_with_place}
 use Rattle.ob_history.proofs.Rooms.{IsSound-more_room}
 use Rattle.ob_history.proofs.Histories.{legal_with_next, accepted_with_next, same_record, same_history}

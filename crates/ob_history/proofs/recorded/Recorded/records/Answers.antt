@@ -1,6 +1,5 @@
 use Rattle.std.proofs.Common.{subst, rules}
-use Rattle.ob_history.specs.History.{History}
-use Rattle.ob_history.specs.Legal.{IsLegal}
+use Rattle.ob_history.specs.History.{History, IsLegal}
 use Rattle.ob_history.proofs.recorded.Recorded.records.Goals as goal
 
 pub returns-clause-legal : goal.returns-clause-legal

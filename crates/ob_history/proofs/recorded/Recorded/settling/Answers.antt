@@ -1,6 +1,5 @@
 use Rattle.std.proofs.Common.{◌≡◌, List, ap, ◌∙◌, subst}
-use Rattle.ob_history.specs.History.{History}
-use Rattle.ob_history.specs.Legal.{IsLegal}
+use Rattle.ob_history.specs.History.{History, IsLegal}
 use Rattle.ob_history.specs.declared.record.Record.{Record}
 use Rattle.ob_history.proofs.Told.{IsFound, found_at_place, found_settles, none_settles, settled_is_found}
 use Rattle.ob_history.proofs.recorded.Recorded.settling.Goals as goal

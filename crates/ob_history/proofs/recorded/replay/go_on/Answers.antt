@@ -1,7 +1,7 @@
 use Rattle.std.proofs.Common.{◌<◌, arith, length, take, sym, ap, ◌∙◌, subst, add-one}
 use Rattle.ob_seq.specs.Answer.{commands_after, commands_with}
 use Rattle.ob_seq.specs.Pending.{StandsFor}
-use Rattle.ob_history.specs.Accepted.{accepted_commands}
+use Rattle.ob_history.specs.History.{accepted_commands}
 use Rattle.ob_history.proofs.Histories.{accepted_with_next, command_of, found_at}
 use Rattle.ob_history.proofs.recorded.replay.go_on.Goals as goal
 

@@ -1,5 +1,5 @@
 use Rattle.std.proofs.Common.{◌≡◌, ◌≤◌, bit_or, None, sym, ap, ◌∙◌, arith, rules}
-use Rattle.ob_lanes.specs.Split.{split_fault}
+use Rattle.ob_lanes.specs.Calls.{split_fault}
 use Rattle.ob_lanes.proofs.Halves.{split_told, not_refused, held_unless_refused}
 use Rattle.ob_lanes.proofs.lane.Lane.split.Goals as goal
 

@@ -1,4 +1,4 @@
-use Rattle.ob_lanes.specs.Tried.{SeatTries}
+use Rattle.ob_lanes.specs.Inside.{SeatTries}
 use Rattle.ob_lanes.proofs.words.Words.add.Given as goal
 
 abbrev pub invariant-tries : goal.invariant-tries

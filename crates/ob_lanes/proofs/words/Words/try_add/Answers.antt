@@ -1,5 +1,5 @@
 use Rattle.std.proofs.Common.{◌≡◌, ◌-◌}
-use Rattle.ob_types.specs.Packed.{total_half}
+use Rattle.ob_types.specs.Marks.{total_half}
 use Rattle.ob_core.specs.declared.lane_step.LaneStep.TheVariants.{Add}
 use Rattle.ob_lanes.proofs.Allowed.{may_move, added_is, made_or_read}
 use Rattle.ob_lanes.proofs.words.Words.try_add.Goals as goal

@@ -3,8 +3,7 @@ use Rattle.std.specs.Prelude.{Some, None, is_ok}
 use Rattle.ob_types.specs.PendingSize.{pending_size_of}
 use Rattle.ob_types.specs.declared.message.Message.TheVariants.{Block}
 use Rattle.ob_lifecycle.specs.Inside.{managed_of, own_fault}
-use Rattle.ob_lifecycle.specs.Managed.{Gives}
-use Rattle.ob_lifecycle.specs.Writes.{fault_of_write}
+use Rattle.ob_lifecycle.specs.Managed.{Gives, fault_of_write}
 use Rattle.ob_lifecycle.specs.declared.fault.WriteFault.TheVariants.{Refused}
 use Rattle.ob_lifecycle.proofs.Writing.{fits_none, fits_own, none_of_both}
 use Rattle.ob_lifecycle.proofs.managed.ManagedConnection.fault_of_block.Goals as goal

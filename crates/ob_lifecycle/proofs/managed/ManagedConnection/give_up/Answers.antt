@@ -9,7 +9,7 @@ use Rattle.ob_lifecycle.proofs.Bringing.{managed_with, stands_on}
 use Rattle.ob_lifecycle.proofs.Tallies.{fits_some}
 use Rattle.ob_lifecycle.proofs.Ends.{brings_give_up}
 use Rattle.ob_lifecycle.proofs.managed.ManagedConnection.give_up.Goals as goal
-use Rattle.ob_lifecycle.specs.Sendings.{giving_up_happens}
+use Rattle.ob_lifecycle.specs.Events.{giving_up_happens}
 
 pub give_up-answer-requires : goal.give_up-answer-requires
 give_up-answer-requires c = fits_some c.self.invariant

@@ -2,7 +2,7 @@ use Rattle.std.proofs.Common.{arith, subst}
 use Rattle.ob_lifecycle.specs.Events.{commands_in}
 use Rattle.ob_lifecycle.specs.Inside.{managed_of}
 use Rattle.ob_lifecycle.specs.Managed.{Gives}
-use Rattle.ob_lifecycle.specs.Numbers.{numbers_after}
+use Rattle.ob_lifecycle.specs.Strain.{numbers_after}
 use Rattle.ob_lifecycle.proofs.Showing.{numbers_shown, rest_bytes, rest_messages, shown}
 use Rattle.ob_lifecycle.proofs.managed.ManagedConnection.numbers.Goals as goal
 

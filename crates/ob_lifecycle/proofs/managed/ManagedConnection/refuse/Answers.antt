@@ -1,7 +1,7 @@
 use Rattle.std.proofs.Common.{refl, subst, sym}
 use Rattle.std.specs.Prelude.{Err}
 use Rattle.ob_lifecycle.specs.Inside.{IsRefusedAs, managed_of}
-use Rattle.ob_lifecycle.specs.Writes.{WritesTo}
+use Rattle.ob_lifecycle.specs.Managed.{WritesTo}
 use Rattle.ob_lifecycle.proofs.Bringing.{stands_on}
 use Rattle.ob_lifecycle.proofs.Writing.{refused_brings, unshared_writes}
 use Rattle.ob_lifecycle.proofs.managed.ManagedConnection.refuse.Goals as goal

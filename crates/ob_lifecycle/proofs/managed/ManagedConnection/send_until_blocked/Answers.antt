@@ -1,10 +1,10 @@
 use Rattle.std.proofs.Common.{subst}
+use Rattle.ob_lifecycle.specs.Events.{sending_happens}
 use Rattle.ob_lifecycle.specs.Inside.{managed_of}
-use Rattle.ob_lifecycle.specs.Managed.{Brings}
 use Rattle.ob_lifecycle.proofs.Bringing.{managed_with, stands_on}
 use Rattle.ob_lifecycle.proofs.Ends.{brings_turns}
 use Rattle.ob_lifecycle.proofs.managed.ManagedConnection.send_until_blocked.Goals as goal
-use Rattle.ob_lifecycle.specs.Sendings.{sending_happens}
+use Rattle.ob_lifecycle.specs.Managed.{Brings}
 
 pub invariant_of-self-2 : goal.invariant_of-self-2
 invariant_of-self-2 g c =

@@ -2,7 +2,7 @@ use Rattle.std.proofs.Common.{◌∙◌, ap, subst, sym}
 use Rattle.std.specs.Prelude.{Ok, Err, is_ok}
 use Rattle.ob_types.specs.PendingSize.{pending_size_of}
 use Rattle.ob_lifecycle.specs.Inside.{HasRoom, managed_of}
-use Rattle.ob_lifecycle.specs.Writes.{WritesTo}
+use Rattle.ob_lifecycle.specs.Managed.{WritesTo}
 use Rattle.ob_lifecycle.specs.declared.fault.NotWritten.{NotWritten}
 use Rattle.ob_lifecycle.proofs.Bringing.{managed_with, stands_on}
 use Rattle.ob_lifecycle.proofs.Writing.{declined_writes, refused_alike, wrote_writes}

@@ -2,7 +2,7 @@ use Rattle.std.proofs.Common.{subst, sym}
 use Rattle.std.specs.Prelude.{Ok, Err}
 use Rattle.ob_types.specs.declared.message.Message.TheVariants.{Block}
 use Rattle.ob_lifecycle.specs.Inside.{HasRoom, managed_of}
-use Rattle.ob_lifecycle.specs.Writes.{WritesTo}
+use Rattle.ob_lifecycle.specs.Managed.{WritesTo}
 use Rattle.ob_lifecycle.proofs.Bringing.{managed_with, stands_on}
 use Rattle.ob_lifecycle.proofs.Writing.{declined_writes, wrote_writes}
 use Rattle.ob_lifecycle.proofs.managed.ManagedConnection.write_copy.Goals as goal

@@ -5,8 +5,7 @@ use Rattle.ob_types.specs.declared.message.Message.TheVariants.{Block}
 use Rattle.ob_types.specs.declared.refusal.Refusal.TheVariants.{NoMemory}
 use Rattle.ob_connection.specs.Obeying.{Accepts}
 use Rattle.ob_lifecycle.specs.Inside.{managed_of}
-use Rattle.ob_lifecycle.specs.Managed.{Gives}
-use Rattle.ob_lifecycle.specs.Writes.{IsNotWritten, WritesTo, fault_of_write}
+use Rattle.ob_lifecycle.specs.Managed.{Gives, IsNotWritten, WritesTo, fault_of_write}
 use Rattle.ob_lifecycle.specs.declared.fault.WriteFault.TheVariants.{Refused}
 use Rattle.ob_lifecycle.proofs.Bringing.{stands_on}
 use Rattle.ob_lifecycle.proofs.Writing.{refused_brings, unshared_writes, without_memory}

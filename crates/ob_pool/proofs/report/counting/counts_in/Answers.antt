@@ -1,5 +1,5 @@
 use Rattle.std.proofs.Common.{[], ◌∷◌, ap, sym, ◌∙◌, subst}
-use Rattle.ob_pool.specs.Report.Counting.{DoFit, counts_of, plus}
+use Rattle.ob_pool.specs.Inside.{DoFit, counts_of, plus}
 use Rattle.ob_pool.specs.declared.report.counts.Counts.{Counts}
 use Rattle.ob_pool.proofs.Histories.CountedRecords.{counts_fit, counts_more}
 use Rattle.ob_pool.proofs.report.counting.counts_in.Goals as goal

@@ -1,5 +1,5 @@
 use Rattle.std.proofs.Common.{◌≡◌, take}
-use Rattle.ob_pool.specs.Report.Counting.{counts_of}
+use Rattle.ob_pool.specs.Inside.{counts_of}
 use Rattle.ob_pool.proofs.report.counting.counts_in.Given as goal
 
 abbrev pub invariant-loop-one : goal.invariant-loop-one

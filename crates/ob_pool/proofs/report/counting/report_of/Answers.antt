@@ -1,8 +1,8 @@
 use Rattle.std.proofs.Common.{◌≡◌, ◌+◌, ◌≤◌, List, ap, ◌∙◌, subst, sym, arith}
 use Rattle.ob_history.specs.History.{most_records}
 use Rattle.ob_history.specs.declared.record.Record.{Record}
-use Rattle.ob_pool.specs.Report.Counting.{DoFit, counts_of}
-use Rattle.ob_pool.specs.Report.Counts.{left_of}
+use Rattle.ob_pool.specs.Inside.{DoFit, counts_of}
+use Rattle.ob_pool.specs.Report.{left_of}
 use Rattle.ob_pool.specs.declared.report.counts.Counts.{Counts}
 use Rattle.ob_pool.proofs.Histories.AcceptedCounts.{taken_fits_word}
 use Rattle.ob_pool.proofs.Histories.CountedRecords.{counts_fit_word}

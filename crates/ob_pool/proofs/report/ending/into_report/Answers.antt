@@ -1,7 +1,7 @@
 use Rattle.std.proofs.Common.{◌++◌, [], ◌∷◌, sym, subst, rules}
 use Rattle.std.proofs.lemmas.Nat.Bits.{bit_at-zero}
 use Rattle.ob_history.specs.History.{History}
-use Rattle.ob_pool.specs.Report.HandedIn.{HaveHandedIn}
+use Rattle.ob_pool.specs.Inside.{HaveHandedIn}
 use Rattle.ob_pool.proofs.report.ending.into_report.Goals as goal
 
 -- `rest` is written out for the must-fail edits that fail there: `search` finds it unasked (CONTRIBUTING.md).

@@ -1,6 +1,6 @@
 use Rattle.std.proofs.Common.{◌≡◌, ◌∙◌}
 use Rattle.std.proofs.lemmas.Result.{IfOk-at_ok}
-use Rattle.ob_pool.specs.Threads.Job.{IsNumbered, IsRoomy, asked, done_by}
+use Rattle.ob_pool.specs.Threads.{IsNumbered, IsRoomy, asked, done_by}
 use Rattle.ob_pool.proofs.Jobs.Alone.{last_holds, last_room, one_done}
 use Rattle.ob_pool.proofs.threads.jobs.one_alone.Goals as goal
 

@@ -1,4 +1,4 @@
-use Rattle.ob_pool.specs.Threads.Sending.{HasTransported}
+use Rattle.ob_pool.specs.Threads.{HasTransported}
 use Rattle.ob_pool.proofs.Passes.Taking.{handed_of}
 use Rattle.ob_pool.proofs.threads.transport.transport.Given as goal
 

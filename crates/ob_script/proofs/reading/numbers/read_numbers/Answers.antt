@@ -1,8 +1,7 @@
 use Rattle.std.proofs.Common.{◌≡◌, ◌+◌, ◌-◌, ◌<◌, ◌≢◌, ◌∷◌, ◌∙◌, sym, ap, Ok, arith, length, length-drop, length-set}
 use Rattle.std.proofs.Common.{take, take_all, drop, get_or-set_other}
 use Rattle.std.proofs.lemmas.List.{take_more_set}
-use Rattle.ob_script.specs.Reading.Lines.{words_after}
-use Rattle.ob_script.specs.Reading.Numbers.{numbers_in, before_numbers}
+use Rattle.ob_script.specs.Reading.{words_after, numbers_in, before_numbers}
 use Rattle.ob_script.proofs.Lemmas.Reading.Lines.{words_after-space, bytes_of_words}
 use Rattle.ob_script.proofs.Lemmas.Reading.Numbers.{behind, behind-Ok, numbers_in-drop}
 use Rattle.ob_script.proofs.reading.numbers.read_numbers.Goals as goal

@@ -1,6 +1,5 @@
 use Rattle.std.proofs.Common.{◌≡◌, ℕ, ◌+◌, ◌<◌, ◌≤◌, length, take, drop, get_or}
-use Rattle.ob_script.specs.Reading.Lines.{words_after}
-use Rattle.ob_script.specs.Reading.Numbers.{numbers_in}
+use Rattle.ob_script.specs.Reading.{words_after, numbers_in}
 use Rattle.ob_script.proofs.Lemmas.Reading.Numbers.{behind}
 use Rattle.ob_script.proofs.reading.numbers.read_numbers.Given as goal
 

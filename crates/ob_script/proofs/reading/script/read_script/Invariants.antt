@@ -1,6 +1,6 @@
 use Rattle.std.proofs.Common.{◌<◌, ◌≤◌, length}
 use Rattle.std.specs.Io.KnownBytes.{Consumes}
-use Rattle.ob_script.specs.Reading.Script.{greatest_script}
+use Rattle.ob_script.specs.Reading.{greatest_script}
 use Rattle.ob_script.proofs.reading.script.read_script.Given as goal
 
 abbrev pub invariant-loop : goal.invariant-loop

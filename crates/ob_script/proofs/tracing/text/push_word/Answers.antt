@@ -1,7 +1,7 @@
 use Rattle.std.proofs.Common.{◌≡◌, ℕ, rules}
 use Rattle.std.specs.Fmt.{digits, padded_integral, char_count}
 use Rattle.std.specs.Prelude.{codes}
-use Rattle.ob_script.specs.Tracing.Text.{eight_hex}
+use Rattle.ob_script.specs.Tracing.{eight_hex}
 use Rattle.ob_script.proofs.tracing.text.push_word.Goals as goal
 
 -- the word with no bit set

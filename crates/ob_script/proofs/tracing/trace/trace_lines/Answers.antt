@@ -1,8 +1,7 @@
 use Rattle.std.proofs.Common.{◌≡◌, ◌∙◌, ◌++◌, ap, subst, sym, None, take}
-use Rattle.ob_script.specs.Reading.Script.{script_lines}
-use Rattle.ob_script.specs.Tracing.Ending.{HasTraced}
-use Rattle.ob_script.specs.Tracing.Language.{Language, Texts}
-use Rattle.ob_script.specs.Tracing.Trace.{trace_of_first}
+use Rattle.ob_script.specs.Inside.{HasTraced}
+use Rattle.ob_script.specs.Reading.{script_lines}
+use Rattle.ob_script.specs.Tracing.{Language, Texts, trace_of_first}
 use Rattle.ob_script.proofs.Lemmas.Reading.Cursor.{ends_at_nil, is_placed, read_further}
 use Rattle.ob_script.proofs.Lemmas.Tracing.Trace.{HasTraced-kept, HasTraced-more, trace_of_first-more, traced_whole}
 use Rattle.ob_script.proofs.tracing.trace.trace_lines.Goals as goal

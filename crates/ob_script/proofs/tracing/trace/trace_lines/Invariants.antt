@@ -1,8 +1,7 @@
 use Rattle.std.proofs.Common.{◌≡◌, take, length}
-use Rattle.ob_script.specs.Reading.Cursor.{StandsAt}
-use Rattle.ob_script.specs.Reading.Script.{script_lines}
-use Rattle.ob_script.specs.Tracing.Ending.{HasTraced}
-use Rattle.ob_script.specs.Tracing.Trace.{trace_of_first}
+use Rattle.ob_script.specs.Inside.{StandsAt, HasTraced}
+use Rattle.ob_script.specs.Reading.{script_lines}
+use Rattle.ob_script.specs.Tracing.{trace_of_first}
 use Rattle.ob_script.proofs.tracing.trace.trace_lines.Given as goal
 
 abbrev pub invariant-lines : goal.invariant-lines

@@ -1,6 +1,5 @@
 use Rattle.std.proofs.Common.{◌≡◌, List, sym, subst}
-use Rattle.ob_history.specs.Beginning.{IsBeginning}
-use Rattle.ob_history.specs.History.{History}
+use Rattle.ob_history.specs.History.{IsBeginning, History}
 use Rattle.ob_history.specs.declared.record.Record.{Record}
 use Rattle.ob_history.proofs.Calls.{begins_after}
 use Rattle.ob_shared.proofs.locked.Locked.keep.Goals as goal

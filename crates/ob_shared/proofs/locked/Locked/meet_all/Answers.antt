@@ -2,8 +2,7 @@ use Rattle.std.proofs.Common.{◌≡◌, ℕ, ◌<◌, ◌-◌, List, ◌++◌, 
 use Rattle.std.proofs.lemmas.List.{get_or-append_right, get_or-drop, length-map, length-take}
 use Rattle.std.proofs.lemmas.List.Edits.{map_over_more}
 use Rattle.std.proofs.lemmas.List.Elements.{All-more}
-use Rattle.ob_history.specs.Beginning.{IsBeginning}
-use Rattle.ob_history.specs.History.{History}
+use Rattle.ob_history.specs.History.{IsBeginning, History}
 use Rattle.ob_history.specs.declared.record.Record.{Record}
 use Rattle.ob_shared.specs.Finish.{after_meeting}
 use Rattle.ob_shared.specs.Share.{Handed}

@@ -1,6 +1,6 @@
 use Rattle.std.proofs.Common.{◌≡◌, sym, ap, ◌∙◌}
 use Rattle.ob_seq.specs.Looks.{promise_after}
-use Rattle.ob_history.specs.Accepted.{accepted_commands}
+use Rattle.ob_history.specs.History.{accepted_commands}
 use Rattle.ob_shared.proofs.locked.Locked.promise.Goals as goal
 
 pub returns-clause-settled : goal.returns-clause-settled

@@ -1,9 +1,8 @@
 use Rattle.std.proofs.Common.{◌≡◌, ◌≤◌, ℕ, List, ◌++◌, append-nil, drop, length, map, take, Some, None, refl, sym, ap, ◌∙◌, subst, arith}
 use Rattle.std.specs.List.{All}
 use Rattle.std.proofs.lemmas.List.{drop_all, take_all}
-use Rattle.ob_history.specs.Beginning.{IsBeginning}
-use Rattle.ob_history.specs.History.{History}
-use Rattle.ob_history.specs.Settlements.{settlements_in}
+use Rattle.ob_history.specs.History.{IsBeginning, History}
+use Rattle.ob_history.specs.Seen.{settlements_in}
 use Rattle.ob_seq.specs.Pending.{times_settled}
 use Rattle.ob_shared.specs.Finish.{StandsIn, first_short, IsForeign, after_meeting}
 use Rattle.ob_shared.specs.Share.{Handed}

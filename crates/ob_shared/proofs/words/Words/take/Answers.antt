@@ -1,5 +1,5 @@
 use Rattle.std.proofs.Common.{sym, ap, ◌∙◌, subst, arith}
-use Rattle.ob_history.specs.Beginning.{IsBeginning}
+use Rattle.ob_history.specs.History.{IsBeginning}
 use Rattle.ob_shared.specs.Published.{Knows}
 use Rattle.ob_shared.proofs.Publishing.{may_learn, may_take}
 use Rattle.ob_shared.proofs.words.Words.take.Goals as goal

@@ -1,9 +1,8 @@
 use Rattle.std.proofs.Common.{◌∙◌, ap, arith, length}
 use Rattle.std.proofs.lemmas.List.Sums.{count_by-le-length, length-filter}
 use Rattle.std.specs.List.{flat_map}
-use Rattle.ob_traces.specs.Draw.Picture.{picture_pieces}
-use Rattle.ob_traces.specs.Draw.Piece.{piece_text}
-use Rattle.ob_traces.specs.Traces.Line.{shows_bytes}
+use Rattle.ob_traces.specs.Draw.{picture_pieces, piece_text}
+use Rattle.ob_traces.specs.Traces.{shows_bytes}
 use Rattle.ob_script.proofs.Lemmas.Results.{OnOk-follows}
 use Rattle.ob_traces.proofs.drawing.DrawingTeller.push_told.Goals as goal
 

@@ -1,6 +1,5 @@
 use Rattle.std.proofs.Common.{◌∙◌, ◌++◌, ap}
-use Rattle.ob_traces.specs.Draw.Picture.{before_pieces, behind_pieces, drawn_pieces}
-use Rattle.ob_traces.specs.Draw.Scale.{scale_of}
+use Rattle.ob_traces.specs.Draw.{before_pieces, behind_pieces, drawn_pieces, scale_of}
 use Rattle.ob_traces.proofs.drawing.picture.make_picture.Goals as goal
 
 pub returns : goal.returns

@@ -1,8 +1,6 @@
 use Rattle.std.proofs.Common.{◌≡◌, ◌++◌, ◌∙◌, ap, append_assoc}
 use Rattle.std.specs.List.{flat_map}
-use Rattle.ob_traces.specs.Draw.Numbers.{greater}
-use Rattle.ob_traces.specs.Draw.Picture.{below_pieces, beside_pieces}
-use Rattle.ob_traces.specs.Draw.Tick.{ticks_of}
+use Rattle.ob_traces.specs.Draw.{greater, below_pieces, beside_pieces, ticks_of}
 use Rattle.ob_script.proofs.Lemmas.Results.{OnOk-follows}
 use Rattle.ob_traces.proofs.drawing.picture.push_ticks.Goals as goal
 

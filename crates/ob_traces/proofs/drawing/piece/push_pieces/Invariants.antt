@@ -1,6 +1,6 @@
 use Rattle.std.proofs.Common.{◌≡◌, ◌++◌, take, string_bytes}
 use Rattle.std.specs.List.{flat_map}
-use Rattle.ob_traces.specs.Draw.Piece.{piece_text}
+use Rattle.ob_traces.specs.Draw.{piece_text}
 use Rattle.ob_traces.proofs.drawing.piece.push_pieces.Given as goal
 
 abbrev pub invariant-loop-piece : goal.invariant-loop-piece

@@ -1,5 +1,5 @@
 use Rattle.std.proofs.Common.{◌≡◌, take}
-use Rattle.ob_traces.specs.Summary.Lines.{pending_behind}
+use Rattle.ob_traces.specs.Summary.{pending_behind}
 use Rattle.ob_traces.proofs.summing.count.pending.Given as goal
 
 abbrev pub invariant-loop-line : goal.invariant-loop-line

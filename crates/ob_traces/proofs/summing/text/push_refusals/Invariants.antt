@@ -1,6 +1,6 @@
 use Rattle.std.proofs.Common.{◌≡◌, ◌++◌, take, string_bytes}
 use Rattle.std.specs.List.{flat_map}
-use Rattle.ob_traces.specs.Summary.Text.{refusal_text}
+use Rattle.ob_traces.specs.Summary.{refusal_text}
 use Rattle.ob_traces.proofs.summing.text.push_refusals.Given as goal
 
 abbrev pub invariant-loop-refusal : goal.invariant-loop-refusal

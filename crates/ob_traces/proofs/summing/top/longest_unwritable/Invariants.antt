@@ -1,7 +1,6 @@
 use Rattle.std.proofs.Common.{◌≡◌, ◌≤◌, take}
 use Rattle.std.specs.List.{suffix_len}
-use Rattle.ob_traces.specs.Summary.Lines.{is_unwritable, unwritable_at}
-use Rattle.ob_traces.specs.Summary.Top.{IsTop}
+use Rattle.ob_traces.specs.Summary.{is_unwritable, unwritable_at, IsTop}
 use Rattle.ob_traces.proofs.summing.top.longest_unwritable.Given as goal
 
 abbrev pub invariant-loop-place : goal.invariant-loop-place

@@ -1,7 +1,7 @@
 use Rattle.std.proofs.Common.{ap}
 use Rattle.std.proofs.lemmas.List.{get_or_default}
-use Rattle.ob_traces.specs.Summary.Lines.{total_at}
-use Rattle.ob_traces.specs.Traces.Line.{bare}
+use Rattle.ob_traces.specs.Summary.{total_at}
+use Rattle.ob_traces.specs.Traces.{bare}
 use Rattle.ob_traces.specs.declared.traces.line.TraceLine.{TraceLine}
 use Rattle.ob_traces.proofs.summing.top.peak.Goals as goal
 

@@ -1,5 +1,4 @@
-use Rattle.ob_traces.specs.Summary.Lines.{total_at}
-use Rattle.ob_traces.specs.Summary.Top.{IsTop}
+use Rattle.ob_traces.specs.Summary.{total_at, IsTop}
 use Rattle.ob_traces.proofs.summing.top.peak.Given as goal
 
 abbrev pub invariant-loop-place : goal.invariant-loop-place

@@ -1,8 +1,8 @@
 use Rattle.std.proofs.Common.{◌≡◌, ◌∙◌, ◌<◌, ◌≤◌, ℕ, Result, Err, ap, length}
 use Rattle.std.specs.Prelude.{if◌then◌else◌, nat_lt, ok_or}
 use Rattle.std.proofs.lemmas.Bool.{le-ltb, lt-ltb}
-use Rattle.ob_script.specs.Reading.Script.{greatest_script}
-use Rattle.ob_traces.specs.Traces.Line.{line_shown}
+use Rattle.ob_script.specs.Reading.{greatest_script}
+use Rattle.ob_traces.specs.Traces.{line_shown}
 use Rattle.ob_script.specs.declared.reading.fault.LineFault.{LineFault}
 use Rattle.ob_script.specs.declared.reading.fault.LineFault.TheVariants.{OfNoTrace}
 use Rattle.ob_traces.specs.declared.traces.line.TraceLine.{TraceLine}

@@ -2,8 +2,8 @@ use Rattle.std.proofs.Common.{◌≡◌, ◌∙◌, ◌+◌, ◌<◌, ℕ, Bool,
 use Rattle.std.specs.List.{list_all}
 use Rattle.std.specs.Prelude.{is_some}
 use Rattle.std.proofs.lemmas.List.Sums.{sum_by-cons}
-use Rattle.ob_script.specs.Reading.Lines.{words_after}
-use Rattle.ob_traces.specs.Traces.Line.{is_cancelled, is_failed, is_success, outcome_of}
+use Rattle.ob_script.specs.Reading.{words_after}
+use Rattle.ob_traces.specs.Traces.{is_cancelled, is_failed, is_success, outcome_of}
 use Rattle.ob_traces.proofs.traces.read.settled.Goals as goal
 
 -- one word more counts if it is so

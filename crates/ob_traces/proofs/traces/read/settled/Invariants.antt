@@ -1,8 +1,8 @@
 use Rattle.std.proofs.Common.{◌≡◌, ◌+◌, ◌<◌, ◌≤◌, count_by, length, get_or}
 use Rattle.std.specs.List.{list_all}
 use Rattle.std.specs.Prelude.{is_some}
-use Rattle.ob_script.specs.Reading.Lines.{words_after}
-use Rattle.ob_traces.specs.Traces.Line.{is_cancelled, is_failed, is_success, outcome_of}
+use Rattle.ob_script.specs.Reading.{words_after}
+use Rattle.ob_traces.specs.Traces.{is_cancelled, is_failed, is_success, outcome_of}
 use Rattle.ob_traces.proofs.traces.read.settled.Given as goal
 
 abbrev pub invariant-loop-word : goal.invariant-loop-word

@@ -1,6 +1,6 @@
 use Rattle.std.proofs.Common.{◌≡◌, ◌<◌, ◌≤◌, length, get_or}
-use Rattle.ob_script.specs.Reading.Lines.{words_after}
-use Rattle.ob_traces.specs.Traces.Words.{behind_lengths}
+use Rattle.ob_script.specs.Reading.{words_after}
+use Rattle.ob_traces.specs.Traces.{behind_lengths}
 use Rattle.ob_traces.proofs.traces.read.skip_lengths.Given as goal
 
 abbrev pub invariant-loop-word : goal.invariant-loop-word

@@ -1,7 +1,7 @@
 use Rattle.std.proofs.Common.{◌≡◌, ◌≤◌, take, length}
-use Rattle.ob_script.specs.Reading.Cursor.{StandsAt}
-use Rattle.ob_script.specs.Reading.Script.{script_lines}
-use Rattle.ob_traces.specs.Traces.Line.{trace_grammar}
+use Rattle.ob_script.specs.Inside.{StandsAt}
+use Rattle.ob_script.specs.Reading.{script_lines}
+use Rattle.ob_traces.specs.Traces.{trace_grammar}
 use Rattle.ob_traces.proofs.traces.trace.read_trace.Given as goal
 
 abbrev pub invariant-loop-cursor : goal.invariant-loop-cursor

@@ -1,6 +1,6 @@
 use Rattle.std.proofs.Common.{◌∙◌, ap}
 use Rattle.ob_seq.specs.Looks.{look_after}
-use Rattle.ob_history.specs.Accepted.{accepted_commands}
+use Rattle.ob_history.specs.History.{accepted_commands}
 use Rattle.ob_cli.proofs.run.session.RunSession.look.Goals as goal
 
 pub returns : goal.returns

@@ -4,7 +4,7 @@ use Rattle.ob_history.specs.History.{History}
 use Rattle.ob_history.specs.Seen.{seen_now}
 use Rattle.ob_history.specs.declared.record.Record.{Record}
 use Rattle.ob_history.proofs.Calls.{record_at_place}
-use Rattle.ob_cli.specs.Run.Call.{told_after}
+use Rattle.ob_cli.specs.Run.{told_after}
 use Rattle.ob_script.proofs.Lemmas.Results.{OnOk-follows}
 use Rattle.ob_cli.proofs.Lemmas.Run.Session.{call-told, has_room, told-last}
 use Rattle.ob_cli.proofs.run.session.RunSession.trace_command.Goals as goal

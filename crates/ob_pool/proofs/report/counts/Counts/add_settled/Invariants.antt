@@ -1,5 +1,5 @@
 use Rattle.std.proofs.Common.{◌≡◌, take}
-use Rattle.ob_pool.specs.Report.Counting.{counts_with, plus}
+use Rattle.ob_pool.specs.Inside.{counts_with, plus}
 use Rattle.ob_pool.proofs.report.counts.Counts.add_settled.Given as goal
 
 abbrev pub invariant-loop-settlement : goal.invariant-loop-settlement

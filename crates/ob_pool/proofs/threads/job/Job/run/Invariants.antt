@@ -1,7 +1,7 @@
 use Rattle.std.proofs.Common.{◌≡◌, ◌+◌, ◌≤◌, ◌++◌, length}
 use Rattle.std.specs.Prelude.{vec_capacity, vec_len}
-use Rattle.ob_pool.specs.Threads.Job.{IsBack, commands_in}
-use Rattle.ob_pool.specs.Planning.HandOff.{room_of}
+use Rattle.ob_pool.specs.Drive.{room_of}
+use Rattle.ob_pool.specs.Threads.{IsBack, commands_in}
 use Rattle.ob_pool.proofs.threads.job.Job.run.Given as goal
 
 abbrev pub invariant-steps : goal.invariant-steps

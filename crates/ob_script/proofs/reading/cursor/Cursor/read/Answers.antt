@@ -1,6 +1,6 @@
 use Rattle.std.proofs.Common.{◌≡◌, ◌+◌, ◌∙◌, ap, drop, subst, rules}
 use Rattle.std.proofs.lemmas.List.{drop-drop}
-use Rattle.ob_script.specs.Reading.Cursor.{IsFollowed}
+use Rattle.ob_script.specs.Inside.{IsFollowed}
 use Rattle.ob_script.specs.declared.script_fault.ScriptFault.TheVariants.{Line}
 use Rattle.ob_script.proofs.Lemmas.Reading.Cursor.{ends_misplaced, ends_unread, followed}
 use Rattle.ob_script.proofs.reading.cursor.Cursor.read.Goals as goal

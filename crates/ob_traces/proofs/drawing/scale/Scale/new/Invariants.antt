@@ -1,5 +1,5 @@
 use Rattle.std.proofs.Common.{◌≡◌, fold, take}
-use Rattle.ob_traces.specs.Draw.Numbers.{greater}
+use Rattle.ob_traces.specs.Draw.{greater}
 use Rattle.ob_traces.proofs.drawing.scale.Scale.new.Given as goal
 
 abbrev pub invariant-loop-line : goal.invariant-loop-line
