@@ -518,13 +518,13 @@ impl Waiters {
         if told.written.status | told.pressure == 0 {
             return Pressed { answer: Ok(Written::accepted(told.written)), pressure: None };
         }
-        self.written_by(&told)
+        self.written_by(told.written, told.pressure)
     }
 
     #[cold]
     #[inline(never)]
-    fn written_by(&self, told: &sys::PressedWritten) -> Pressed<Result<Written, Refusal>> {
-        Pressed { answer: Written::of(told.written), pressure: self.turned(told.pressure) }
+    fn written_by(&self, written: sys::Written, pressure: u32) -> Pressed<Result<Written, Refusal>> {
+        Pressed { answer: Written::of(written), pressure: self.turned(pressure) }
     }
 }
 
