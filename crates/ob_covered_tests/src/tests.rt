@@ -89,6 +89,28 @@ fn empty(rt: &impl Abort, budget: &Budget, connection: &mut Budgeted) {
 }
 
 #[test]
+fn cover_is_asked_for_before_a_message_is_made(rt: HostRuntime) -> Result<(), Fail> {
+    let (budget, cover, other) = opened(rt.alloc(), 0)?;
+    let mut one = under(rt.alloc(), cover)?;
+    let mut late = under(rt.alloc(), other)?;
+    let told = one.cover_ahead(900);
+    assert_eq!(rt;
+        (told.answer, told.pressure),
+        (Ok(()), Some(Pressure::Began))
+    );
+    assert_eq!(rt; (write(&mut one), total(&budget)), (Ok(None), 900));
+    let told = late.cover_ahead(101);
+    assert_eq!(rt; (told.answer, told.pressure), (Err(RaiseFault::Full), None));
+    assert_eq!(rt; (late.held(), total(&budget)), (0, 900));
+    // a flush gives back what no write used
+    assert_eq!(rt;
+        (one.flush().pressure, one.held()),
+        (Some(Pressure::Ended), 100)
+    );
+    Ok(())
+}
+
+#[test]
 fn a_quantum_serves_several_writes(rt: HostRuntime) -> Result<(), Fail> {
     let (budget, cover, _other) = opened(rt.alloc(), 250)?;
     let mut connection = under(rt.alloc(), cover)?;
