@@ -764,7 +764,7 @@ LIMEKEEL_TOLD struct limekeel_pressed_done limekeel_budgeted_rest(struct limekee
 
 /* Lets it hold `bytes` beside what is pending: for the next message, by all that this counts, before its bytes are made. Then the
  * budget does not refuse the write, which takes nothing of it. LIMEKEEL_OVER_BUDGET and LIMEKEEL_BUSY come as of a write, and then
- * nothing has changed. What no write used goes back with the next flush or removal, down to the quantum. */
+ * nothing has changed. What no write used goes back with the next flush or removal, if it is more than two quanta, down to one. */
 LIMEKEEL_TOLD struct limekeel_pressed_done limekeel_budgeted_cover(struct limekeel_budgeted *budgeted, uint32_t bytes);
 
 /* The writes, as those of a connection. LIMEKEEL_OVER_BUDGET and LIMEKEEL_BUSY come after LIMEKEEL_CLOSED and LIMEKEEL_OVERSIZE, and
@@ -975,8 +975,8 @@ LIMEKEEL_TOLD struct limekeel_pressed_sent limekeel_budgeted_send(struct limekee
                                                                   uint32_t max_turns);
 
 /* Messages that are made in place, as by a serializer, in memory that small ones share: reserve room, fill it, write it. A server
- * with many small answers makes one message of all that it answers in a turn: that costs a tenth. These are in room.c, over
- * limekeel_write_lent. One connection has one of these, which is let go of as messages are taken away. */
+ * with many small answers makes one message of all that it answers in a turn: that costs a tenth. They are here and in
+ * room.c, over limekeel_write_lent. One connection has one of these, which is let go of as messages are taken away. */
 struct limekeel_chunk;
 struct limekeel_rooms {
     struct limekeel_chunk *first, *last; /* Limekeel's, as what follows */

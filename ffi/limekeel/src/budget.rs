@@ -218,7 +218,7 @@ impl BudgetedConnection {
     /// the budget does not refuse the write, which takes nothing of it.
     ///
     /// [`Refusal::OverBudget`] and [`Refusal::Busy`] come as of a write, and then nothing has changed. What no write used goes back
-    /// with the next flush or removal, down to the quantum.
+    /// with the next flush or removal, if it is more than two quanta, down to one.
     ///
     /// ```
     /// use limekeel::{Bounds, Budget, BudgetedConnection, Estimate, Marks, Refusal};
