@@ -1131,6 +1131,10 @@ static inline void limekeel_keep_reserved(struct limekeel_rooms *rooms, struct l
         rooms->at += length;
         rooms->left -= length;
         rooms->end = written.id + 1;
+#ifdef __GNUC__
+        /* The next message comes when others had theirs: without this it waits for the memory that it is made in. */
+        __builtin_prefetch(rooms->at + 64, 1);
+#endif
     }
 }
 

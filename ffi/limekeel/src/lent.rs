@@ -4,6 +4,7 @@
 //! neither moved nor dropped, nor are its bytes changed, before [`Lent::let_go_below`] is called with an end above that promise.
 
 use crate::replies::Refusal;
+use std::arch::x86_64::{_MM_HINT_T0, _mm_prefetch};
 use std::collections::VecDeque;
 use std::fmt::{self, Debug, Formatter};
 use std::mem::{replace, take};
@@ -176,6 +177,17 @@ impl Lent {
     #[inline]
     pub(crate) fn keep_made(&mut self, id: u64) {
         self.last = id;
+        self.ask_for_the_next();
+    }
+
+    /// Has the processor bring the memory that the next message is made in: when others had theirs meanwhile, it would be waited
+    /// for.
+    #[inline]
+    fn ask_for_the_next(&self) {
+        const LINE: usize = 64;
+        let next = self.chunk.as_ptr().wrapping_add(self.chunk.len() + LINE);
+        // SAFETY: it reads and writes nothing that a program sees, and fails for no address.
+        unsafe { _mm_prefetch::<_MM_HINT_T0>(next.cast()) };
     }
 
     /// Lets go of that in which no message from this promise on has a part. It does not allocate.
