@@ -9,6 +9,7 @@ pub mod Offered
 pub mod Parts
 pub mod Sending
 pub mod Settling
+pub mod Taking
 pub mod TurnOffers
 pub mod Turns
 pub mod Words

@@ -9,64 +9,55 @@ use Rattle.ob_seq.proofs.Inside.Made.{first_where_open, makes_refused, makes_tak
 use Rattle.ob_connection.specs.Becoming.{Becomes, IsFirstRefusal}
 use Rattle.ob_connection.specs.Connected.{room_in, roomed}
 
--- what waits makes its step, and so does a connection
-module _ {A : Type 0} (step : Pending → Step) (tell : List PromiseState → A → Reply) {inside old : Connected}
-    (view : inside ≡ old) where
-  pub made : {new : Connected} (result : Result A Refusal) →
-      ((past : Past inside) → (after : Past new)
-      × Makes (held past) (step (held past)) (told_by (tell (held past).promises) result) (held after)) →
-      OnErr result (new ≡ inside) → Steps step old tell result new
-  made {new} result makes refused =
-      subst (λ one. Steps step one tell result new) view (record { makes = makes; refused = refused })
+-- what waits makes its step, and so does a connection, by a call that lets no message go
+pub made_within : {A : Type 0} (step : Pending → Step) (tell : List PromiseState → A → Reply) {old : Connected} (new : Unsent)
+    (result : Result A Refusal) →
+    ((past : Past old) → Makes (held past) (step (held past)) (told_by (tell (held past).promises) result)
+    (whole past.outcomes new)) →
+    OnErr result (new ≡ old.unsent) → Steps step old tell result (record { unsent = new; gone = old.gone })
+made_within step tell new (Ok value) makes refused = record {
+  makes = λ past. (record { outcomes = past.outcomes; count = past.count }, makes past);
+  refused = tt;
+}
+made_within step tell {old} new (Err refusal) makes refused = record {
+  makes = λ past. (record { outcomes = past.outcomes; count = past.count }, makes past);
+  refused = ap (λ unsent. record { unsent = unsent; gone = old.gone }) refused;
+}
 
-  -- and one that lets no message go
-  pub made_within : (new : Unsent) (result : Result A Refusal) →
-      ((past : Past inside) → Makes (held past) (step (held past)) (told_by (tell (held past).promises) result)
-      (whole past.outcomes new)) →
-      OnErr result (new ≡ inside.unsent) → Steps step old tell result (record { unsent = new; gone = inside.gone })
-  made_within new (Ok value) makes refused =
-      made (Ok value) (λ past. (record { outcomes = past.outcomes; count = past.count }, makes past)) tt
-  made_within new (Err refusal) makes refused =
-      made (Err refusal) (λ past. (record { outcomes = past.outcomes; count = past.count }, makes past))
-      (ap (λ unsent. record { unsent = unsent; gone = inside.gone }) refused)
-
-module _ {A : Type 0} (step : Pending → Step) (tell : List PromiseState → A → Reply) {inside old : Connected}
-    (view : inside ≡ old) where
+module _ {A : Type 0} (step : Pending → Step) (tell : List PromiseState → A → Reply) {old : Connected} where
   -- a call is refused if the connection is closed
-  pub closed : inside.unsent.closed ≡ true → Steps step old tell (Err Closed) old
-  closed is = subst (λ one. Steps step one tell (Err Closed) one) view (record {
-    makes = λ past.
-        (past, makes_refused (held past) (step (held past)) Closed (λ same. absurd (cc)) (rw is refl));
+  pub closed : old.unsent.closed ≡ true → Steps step old tell (Err Closed) old
+  closed is = record {
+    makes = λ past. (past, makes_refused (held past) (step (held past)) Closed (λ same. absurd (cc)) (rw is refl));
     refused = refl;
-  })
+  }
 
-  module _ (unclosed : inside.unsent.closed ≡ false) where
+  module _ (unclosed : old.unsent.closed ≡ false) where
     -- or if its step is
     pub refused : (refusal : Refusal) → ¬ (refusal ≡ NoMemory) →
-        ((past : Past inside) → (step (held past)).refusal ≡ Some refusal) → Steps step old tell (Err refusal) old
-    refused refusal other is = subst (λ one. Steps step one tell (Err refusal) one) view (record {
+        ((past : Past old) → (step (held past)).refusal ≡ Some refusal) → Steps step old tell (Err refusal) old
+    refused refusal other is = record {
       makes = λ past. (
         past,
         makes_refused (held past) (step (held past)) refusal other
             (first_where_open (held past) (step (held past)) unclosed (is past)),
       );
       refused = refl;
-    })
+    }
 
     -- and else it takes its step
-    pub taken : {new : Connected} (value : A) → ((past : Past inside) → (step (held past)).refusal ≡ None) →
-        ((past : Past inside) → tell (held past).promises value ≡ (step (held past)).reply) →
-        ((past : Past inside) → (after : Past new) × (held after ≡ (step (held past)).after)) →
-        Steps step old tell (Ok value) new
-    taken {new} value none same after = subst (λ one. Steps step one tell (Ok value) new) view (record {
+    pub taken : {new : Connected} (value : A) → ((past : Past old) → (step (held past)).refusal ≡ None) →
+        ((past : Past old) → tell (held past).promises value ≡ (step (held past)).reply) →
+        Becomes (λ now. (step now).after) old new → Steps step old tell (Ok value) new
+    taken {new} value none same becomes = record {
       makes = λ past.
-          let there = after past in (
+          let there = becomes past in (
             there.0,
             makes_taken (held past) (step (held past)) (tell (held past).promises value) (held there.0) unclosed
                 (none past) (same past) there.1,
           );
       refused = tt;
-    })
+    }
 
 -- a call is refused so if that is the first refusal of its step
 pub first_refused : {A : Type 0} (command : Command) (tell : List PromiseState → A → Reply) {old : Connected}
@@ -83,22 +74,19 @@ pub becomes_roomed : (step : Pending → Pending) {old : Connected} (now : Conne
 becomes_roomed step {old} now same becomes = subst (λ one. Becomes step old one) (sym same) (λ past.
     let there = becomes past in (record { outcomes = there.0.outcomes; count = there.0.count }, there.1))
 
--- the first in line leave, and the ring gives room back
-pub becomes_left : (step : Pending → Pending) (outcome : Outcome) (count : ℕ) {inside old new : Connected} (left : Unsent) →
-    inside ≡ old → count ≤ length old.unsent.line →
+-- the first in line leave
+pub becomes_left : (step : Pending → Pending) (outcome : Outcome) (count : ℕ) {old : Connected} (left : Unsent) →
+    count ≤ length old.unsent.line →
     ((past : List Outcome) →
-    whole (past ++ map (ended outcome) (take count inside.unsent.line)) left ≡ step (whole past inside.unsent)) →
-    new ≡ roomed (room_in new) (record { unsent = left; gone = inside.gone + count }) → Becomes step old new
-becomes_left step outcome count {inside} {old} {new} left view few left_is roomed_is =
-    let ends = map (ended outcome) (take count inside.unsent.line) in
+    whole (past ++ map (ended outcome) (take count old.unsent.line)) left ≡ step (whole past old.unsent)) →
+    Becomes step old (record { unsent = left; gone = old.gone + count })
+becomes_left step outcome count {old} left few left_is past =
+    let ends = map (ended outcome) (take count old.unsent.line) in
     let many : length ends ≡ count =
-    length-map (take count inside.unsent.line) (ended outcome)
-    ∙ length-take-le count inside.unsent.line (omega (arith, few, ap (λ (one : Connected). length one.unsent.line) view)) in
-    becomes_roomed step (record { unsent = left; gone = inside.gone + count }) roomed_is
-    (subst (λ one. Becomes step one (record { unsent = left; gone = inside.gone + count })) view (λ past. (
+    length-map (take count old.unsent.line) (ended outcome) ∙ length-take-le count old.unsent.line few in (
       record { outcomes = past.outcomes ++ ends; count = length-append past.outcomes ends ∙ omega (arith, past.count, many) },
       left_is past.outcomes,
-    )))
+    )
 
 pub steps_roomed : {A : Type 0} {step : Pending → Step} {tell : List PromiseState → A → Reply} {value : A}
     {old : Connected} (now : Connected) {new : Connected} → new ≡ roomed (room_in new) now →

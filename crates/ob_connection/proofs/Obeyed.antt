@@ -1,14 +1,18 @@
 -- A call that makes the step of its command obeys it.
 use Rattle.ob_connection.proofs.Words.{◌≡◌, sym, ap, ◌∙◌, subst, arith, List, [], ◌∷◌, ◌++◌, true, false, None}
 use Rattle.ob_connection.proofs.Words.{Option, Result, Ok, Err, IsErrOf, Refusal, NoMemory, Reply, Command, PromiseState}
-use Rattle.ob_connection.proofs.Words.{Pending, Step, Makes, answer_by, Past, held, Moves, Connected, told_by, step_within}
+use Rattle.ob_connection.proofs.Words.{Pending, Step, answer_by, Past, held, Moves, Connected, told_by, step_within}
 use Rattle.ob_connection.proofs.Words.{connection_limit, Leaves, StandsFor, StandsForSome, Answers, Follows, Obeys, commands_with}
-use Rattle.ob_connection.proofs.Words.{ℕ, Unsent}
+use Rattle.ob_connection.proofs.Words.{ℕ, Unsent, Becomes, accepted_writes, most_ids, length, ◌≤◌}
+use Rattle.std.proofs.lemmas.List.{length-map}
+use Rattle.ob_seq.specs.Effect.{rows_after}
+use Rattle.ob_seq.proofs.Rows.Limits.{rows_within}
+use Rattle.ob_connection.specs.Connected.{room_in, roomed}
+use Rattle.ob_connection.proofs.Kept.{ids_are, some_past}
 use Rattle.ob_seq.specs.Answer.{are_accepted_within}
 use Rattle.ob_seq.specs.Steps.Within.{StepsWithin}
 use Rattle.ob_connection.specs.Becoming.{IsFirstRefusal}
 use Rattle.ob_connection.specs.Looks.{Refuses}
-use Rattle.ob_connection.specs.declared.connection.Connection.TheInside.{Inside}
 use Rattle.ob_connection.specs.Obeying.{Accepts}
 use Rattle.ob_connection.proofs.Making.{made_within}
 use Rattle.ob_seq.proofs.Simulating.Simulated.{answer_is, goes_on, simulated}
@@ -34,19 +38,18 @@ abbrev step_at : Command → Pending → Step
 step_at command now = step_within connection_limit command now
 
 -- the outcomes of a history
-abbrev past_of : {connection : Connected} {commands : List Command} → StandsFor connection commands → Past connection
+abbrev pub past_of : {connection : Connected} {commands : List Command} → StandsFor connection commands → Past connection
 past_of stands = record { outcomes = stands.past; count = stands.forgotten }
 
--- what is held stands for the history with the command if its step was taken
-goes_on_with : (command : Command) {old new : Connected} (reply : Reply) (commands : List Command)
-    (stands : StandsFor old commands) (after : Past new) →
-    (let now = held (past_of stands) in Makes now (step_at command now) (Ok reply) (held after)) →
+-- what a step leaves that is not refused stands for the history with its command
+stands_with : (command : Command) {old new : Connected} (commands : List Command) (stands : StandsFor old commands)
+    (after : Past new) → old.unsent.closed ≡ false →
+    (let step = step_at command (held (past_of stands)) in (step.refusal ≡ None) × (held after ≡ step.after)) →
     StandsFor new (commands ++ command ∷ [])
-goes_on_with command reply commands stands after made =
+stands_with command commands stands after unclosed made =
     let now = held (past_of stands) in
-    let opened = answered now (step_at command now) reply (made.answer (λ wants. absurd (cc))) in
-    let on = goes_on connection_limit command now commands stands.accepted stands.leaves opened.0 opened.1 in
-    let same : held after ≡ (step_at command now).after = made.after in record {
+    let on = goes_on connection_limit command now commands stands.accepted stands.leaves unclosed made.0 in
+    let same : held after ≡ (step_at command now).after = made.1 in record {
       accepted = subst (λ (one : Pending). are_accepted_within connection_limit one.settings [] (commands ++ command ∷ [])
           ≡ true) (sym same) on.0;
       past = after.outcomes;
@@ -54,11 +57,46 @@ goes_on_with command reply commands stands after made =
       leaves = subst (λ (one : Pending). Leaves one (commands ++ command ∷ [])) (sym same) on.1;
     }
 
+-- so it stands for some history
+pub stands_after : (command : Command) {old new : Connected} → old.unsent.closed ≡ false →
+    ((past : Past old) → (step_at command (held past)).refusal ≡ None) →
+    Becomes (λ now. (step_at command now).after) old new → StandsForSome old → StandsForSome new
+stands_after command unclosed none becomes some =
+    let past = past_of some.1 in
+    let there = becomes past in
+    (some.0 ++ command ∷ [], stands_with command some.0 some.1 there.0 unclosed (none past, there.1))
+
+-- as does the same with another room
+pub stands_roomed : {old new : Connected} → new ≡ roomed (room_in new) old → StandsForSome old → StandsForSome new
+stands_roomed same some = subst StandsForSome (sym same) (
+  some.0,
+  record {
+    accepted = some.1.accepted;
+    past = some.1.past;
+    forgotten = some.1.forgotten;
+    leaves = some.1.leaves;
+  },
+)
+
+-- and its ids are within the limit
+pub ids_within : {connection : Connected} → StandsForSome connection → accepted_writes connection ≤ most_ids
+ids_within {connection} some =
+    omega (
+      arith,
+      ids_are (past_of some.1),
+      ap (λ (states : List PromiseState). length states) some.1.leaves.promises,
+      length-map (rows_after connection.unsent.settings.estimate some.0) (λ row. row.promise),
+      rows_within connection.unsent.settings most_ids some.0 some.1.accepted,
+    )
+
 module _ {A : Type 0} (command : Command) {tell : List PromiseState → A → Reply} {old : Connected} where
   follows : {new : Connected} (result : Result A Refusal) → Moves old command tell result new →
       Follows old command result new
   follows (Ok value) moves commands stands =
-      let there = moves.makes (past_of stands) in goes_on_with command _ commands stands there.0 there.1
+      let there = moves.makes (past_of stands) in
+      let now = held (past_of stands) in
+      let opened = answered now (step_at command now) _ (there.1.answer (λ wants. absurd (cc))) in
+      stands_with command commands stands there.0 opened.0 (opened.1, there.1.after)
   follows (Err refusal) moves commands stands = subst (λ one. StandsFor one commands) (sym moves.refused) stands
 
   -- the settings stay
@@ -84,38 +122,32 @@ module _ {A : Type 0} (command : Command) {tell : List PromiseState → A → Re
         let none = (moves.makes past).1.no_memory_last (wants_told (tell (held past).promises) result wants) in
         rw (← answer_is connection_limit command (held past) commands stands.leaves, none)
 
-    module _ (some : StandsForSome old) where
-      -- some history is still stood for
-      pub stays : StandsForSome new
-      stays = (commands_with some.0 command result, follows result moves some.0 some.1)
+    -- some history is still stood for
+    pub stays : StandsForSome old → StandsForSome new
+    stays some = (commands_with some.0 command result, follows result moves some.0 some.1)
 
-      -- a call that makes the step of its command obeys it
-      pub obeys : Obeys old command tell result new
-      obeys = record {
-        answer = answers;
-        stands = follows result moves;
-        settings = settings_by result moves (past_of some.1);
-        refused = moves.refused;
-        no_memory_last = accepts;
-      }
-
--- what a connection holds, as its fields say it
-pub inner_is : {connected : Connected} {inside : Inside} → record { inner = connected } ≡ inside → connected ≡ inside.inner
-inner_is view = ap (λ (one : Inside). one.inner) view
+    -- a call that makes the step of its command obeys it
+    pub obeys : Obeys old command tell result new
+    obeys = record {
+      answer = answers;
+      stands = follows result moves;
+      settings = settings_by result moves (some_past old);
+      refused = moves.refused;
+      no_memory_last = accepts;
+    }
 
 -- so does one that what waits carries out, and that lets no message go
 module _ (command : Command) {A : Type 0} {tell : List PromiseState → A → Reply} {unsent new : Unsent} {gone : ℕ}
-    {inside : Inside} (view : record { inner = record { unsent = unsent; gone = gone } } ≡ inside) {result : Result A Refusal}
-    (steps : StepsWithin (step_at command) tell unsent result new) (some : StandsForSome inside.inner) where
-  moved : Moves inside.inner command tell result (record { unsent = new; gone = gone })
-  moved = made_within (step_at command) tell (inner_is view) new result (λ past. steps.makes past.outcomes) steps.refused
+    {result : Result A Refusal} (steps : StepsWithin (step_at command) tell unsent result new) where
+  moved : Moves (record { unsent = unsent; gone = gone }) command tell result (record { unsent = new; gone = gone })
+  moved = made_within (step_at command) tell new result (λ past. steps.makes past.outcomes) steps.refused
 
-  pub stays_within : StandsForSome (record { unsent = new; gone = gone })
-  stays_within = stays command moved some
+  pub stays_within : StandsForSome (record { unsent = unsent; gone = gone }) → StandsForSome (record { unsent = new; gone = gone })
+  stays_within some = stays command moved some
 
-  pub obeys_within : {now : Connected} → inside.inner ≡ now →
+  pub obeys_within : {now : Connected} → record { unsent = unsent; gone = gone } ≡ now →
       Obeys now command tell result (record { unsent = new; gone = gone })
-  obeys_within same = rw (← same) (obeys command moved some)
+  obeys_within same = rw (← same) (obeys command moved)
 
 -- the first refusal of a step is that of its command, whatever history the connection stands for
 pub refuses : (command : Command) {now : Connected} {refusal : Option Refusal} → IsFirstRefusal now command refusal →

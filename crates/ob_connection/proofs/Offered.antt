@@ -13,7 +13,7 @@ use Rattle.ob_seq.specs.Effect.{blocks_in_front}
 use Rattle.ob_seq.specs.Looks.{with_bytes}
 use Rattle.ob_connection.specs.Calls.{Call, with_more}
 use Rattle.ob_connection.specs.Offering.{Offers, offered}
-use Rattle.ob_connection.specs.declared.inner.offer.Offer.{Offer}
+use Rattle.ob_connection.specs.declared.connection.offer.Offer.{Offer}
 
 -- the bytes of pieces, one after another
 pub joined : (pieces : List IoSlice) → io_slices_bytes pieces ≡ concat (map io_slice_bytes pieces)

@@ -1,7 +1,7 @@
 -- What was sent can be taken away.
-use Rattle.ob_connection.proofs.Words.{◌≡◌, ◌≤◌, ℕ, Bool, false, not, List, [], refl, subst, length, take, ltb, cond, sym, ap, ◌∙◌, whole}
+use Rattle.ob_connection.proofs.Words.{◌≡◌, ◌≤◌, ℕ, Bool, false, not, List, [], refl, length, take, ltb, cond, sym, ap, ◌∙◌, whole}
 use Rattle.ob_connection.proofs.Words.{arith, nat_tests, Some, None, Option, Err, Refusal, Closed, Reply, Command, Settings}
-use Rattle.ob_connection.proofs.Words.{Connected, StandsFor, Gives, true, ◌<◌}
+use Rattle.ob_connection.proofs.Words.{Connected, StandsFor, StandsForSome, Gives, true, ◌<◌}
 use Rattle.std.proofs.lemmas.List.{length-map}
 use Rattle.ob_types.specs.Limits.{greatest_total}
 use Rattle.ob_seq.specs.Looks.{first_blocks, gathered_after, with_bytes}
@@ -13,8 +13,8 @@ use Rattle.ob_connection.specs.declared.ending.Ending.TheVariants.{Drained, Bloc
 use Rattle.ob_connection.specs.Sending.{Asks, bytes_or_fault, Ends, IsDue, offered_after, sent_or_fault}
 use Rattle.ob_connection.specs.declared.connection.sending.SendFault.{SendFault}
 use Rattle.ob_connection.specs.declared.connection.sending.Sent.{Sent}
-use Rattle.ob_connection.specs.declared.inner.offer.Offer.{Offer}
-use Rattle.ob_connection.specs.declared.inner.offer.Offer.TheVariants.{Nothing, Took, Blocked as AskedBlocked, Broken as AskedBroken}
+use Rattle.ob_connection.specs.declared.connection.offer.Offer.{Offer}
+use Rattle.ob_connection.specs.declared.connection.offer.Offer.TheVariants.{Nothing, Took, Blocked as AskedBlocked, Broken as AskedBroken}
 use Rattle.std.specs.List.{concat}
 use Rattle.std.specs.Prelude.{min, is_some, IfOk, Result, ◌&&◌}
 use Rattle.ob_connection.proofs.Words.{◌∷◌, ◌++◌, Past, held, connection_limit}
@@ -90,6 +90,10 @@ ends_are now OtherInFront left =
 ends_are now TurnsUsed some = is_not_empty now some
 ends_are now (IsBroken error) some = is_not_empty now some
 
+-- a connection that is open after each history is open
+pub is_open : {now : Connected} → Gives now closed_after false → StandsForSome now → now.unsent.closed ≡ false
+is_open unclosed some = some.1.leaves.closed ∙ sym (unclosed some.0 some.1)
+
 -- an open connection has no more bytes in front than may be pending
 pub few_in_front : (now : Connected) (commands : List Command) → StandsFor now commands →
     bytes_in (run_of now.unsent) ≤ greatest_total
@@ -111,28 +115,24 @@ asked_for AskedBlocked blocks nothing something = let some = something (λ same.
 asked_for (AskedBroken error) blocks nothing something = let some = something (λ same. absurd (cc)) in grind (arith, nat_tests)
 
 -- what an open connection asks of a socket that it made an offer, and reports
-pub asks_by : {inside now : Connected} → inside ≡ now → Gives now closed_after false → (max_count max_bytes : ℕ) →
+pub asks_by : {now : Connected} → Gives now closed_after false → (max_count max_bytes : ℕ) →
     (sent_before sent_after : Option (List ℕ)) (before after : Option (List Call)) (offer : Offer) →
-    Offers (min most_pieces max_count) max_bytes inside.unsent sent_before before offer sent_after after →
+    Offers (min most_pieces max_count) max_bytes now.unsent sent_before before offer sent_after after →
     (result : Result Sent SendFault) → bytes_or_fault result ≡ sent_or_fault false (answer_of offer) →
     IfOk result (λ done. done.blocked ≡ had_no_room (answer_of offer)) → Asks max_count max_bytes now before result after
-asks_by {now = now} view unclosed max_count max_bytes sent_before sent_after before after offer offers result told blocks =
-    let here : Offers (min most_pieces max_count) max_bytes now.unsent sent_before before offer sent_after after =
-    subst
-    (λ (one : Connected). Offers (min most_pieces max_count) max_bytes one.unsent sent_before before offer sent_after after)
-    view offers in record {
-      answer = answer_of offer;
-      asked = λ commands stands. asked_for offer (offered (min most_pieces max_count) max_bytes now.unsent) here.nothing
-          here.something
-          ∙ ap (λ (blocks : List (List ℕ)). ltb 0 (length blocks)) (offered_is now commands stands max_count max_bytes)
-          ∙ ap (λ closed. not closed && ltb 0 (length (offered_after max_count max_bytes now.unsent.settings commands)))
-          (unclosed commands stands);
-      calls = λ commands stands. here.calls
-          ∙ ap (λ (blocks : List (List ℕ)). with_more before (calls_with blocks (answer_of offer)))
-          (offered_is now commands stands max_count max_bytes);
-      told = λ commands stands. told ∙ ap (λ closed. sent_or_fault closed (answer_of offer)) (unclosed commands stands);
-      blocked = blocks;
-    }
+asks_by {now} unclosed max_count max_bytes sent_before sent_after before after offer offers result told blocks = record {
+  answer = answer_of offer;
+  asked = λ commands stands. asked_for offer (offered (min most_pieces max_count) max_bytes now.unsent) offers.nothing
+      offers.something
+      ∙ ap (λ (blocks : List (List ℕ)). ltb 0 (length blocks)) (offered_is now commands stands max_count max_bytes)
+      ∙ ap (λ closed. not closed && ltb 0 (length (offered_after max_count max_bytes now.unsent.settings commands)))
+      (unclosed commands stands);
+  calls = λ commands stands. offers.calls
+      ∙ ap (λ (blocks : List (List ℕ)). with_more before (calls_with blocks (answer_of offer)))
+      (offered_is now commands stands max_count max_bytes);
+  told = λ commands stands. told ∙ ap (λ closed. sent_or_fault closed (answer_of offer)) (unclosed commands stands);
+  blocked = blocks;
+}
 
 -- what is left once `taken` bytes were taken away is what is gathered after a removal of them
 pub due_after : {now : Connected} → Gives now closed_after false → (max_bytes taken : ℕ) (pieces : List (List ℕ)) →

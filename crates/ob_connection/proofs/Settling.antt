@@ -1,6 +1,6 @@
 -- What messages settle that are taken away, as an interval of ids and as the model lists it.
 use Rattle.ob_connection.proofs.Words.{◌≡◌, refl, arith, ℕ, zero, suc, ◌+◌, ◌-◌, ◌≤◌, List, [], ◌∷◌, ◌++◌}
-use Rattle.ob_connection.proofs.Words.{length, map, take, drop, Option, Outcome, PromiseState}
+use Rattle.ob_connection.proofs.Words.{length, map, take, drop, Ok, Option, Outcome, PromiseState}
 use Rattle.ob_connection.proofs.Words.{Past, held, Connected}
 use Rattle.std.proofs.lemmas.List.{drop_at, length-map, nil_from_length, take_all}
 use Rattle.ob_types.specs.declared.promise.Cause.{Cause}
@@ -13,7 +13,7 @@ use Rattle.ob_seq.specs.Unsent.{fixed_state, pending_entries, states_of, waiting
 use Rattle.ob_seq.specs.declared.entry.Entry.{Entry}
 use Rattle.ob_seq.proofs.Inside.Rooms.{fresh_states, promises_there}
 use Rattle.ob_seq.proofs.Rows.Acceptance.{same_reply}
-use Rattle.ob_connection.specs.Obeying.{settled_from, taken_reply}
+use Rattle.ob_connection.specs.Obeying.{IsNext, settled_from, taken_reply}
 use Rattle.ob_connection.specs.declared.replies.Taken.{Taken}
 use Rattle.ob_connection.proofs.Kept.{front_id_there}
 
@@ -37,6 +37,12 @@ waiting_promises {connection} past = grind (arith, drop_at, length-map)
 abbrev pub taken_between : ℕ → ℕ → Outcome → Option Change → Taken
 taken_between from to outcome change =
     record { count = to - from; change = change; from = from; to = to; outcome = outcome }
+
+-- what was taken away since goes on from what was gone
+pub is_next : (old new : Connected) {outcome : Outcome} {from : ℕ} {change : Option Change} {taken : Taken} → from ≡ old.gone →
+    taken ≡ taken_between from new.gone outcome change → old.gone ≤ new.gone → IsNext old outcome (Ok taken) new
+is_next old new same is more =
+    let all : old.gone + (new.gone - old.gone) ≡ new.gone = omega (arith, more) in rw (is, same) (grind arith)
 
 -- the first `count` in line that were taken away are reported as the model reports them
 pub line_replied : {connection : Connected} (past : Past connection) (to count : ℕ) (outcome : Outcome)

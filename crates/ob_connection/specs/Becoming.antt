@@ -1,21 +1,18 @@
 -- What a call does to a connection, step by step. No public clause cites this module.
-use Rattle.std.specs.Prelude.{◌≡◌, ℕ, List, length, false, Option, Result, Ok, OnErr}
+use Rattle.std.specs.Prelude.{◌≡◌, ◌≤◌, ℕ, List, length, drop, Option, Some, Result, OnErr}
 use Rattle.ob_types.specs.declared.command.Command.{Command}
-use Rattle.ob_types.specs.declared.command.Command.TheVariants.{RemoveBytes}
-use Rattle.ob_types.specs.declared.promise.Cause.{Cause}
 use Rattle.ob_types.specs.declared.promise.Outcome.{Outcome}
 use Rattle.ob_types.specs.declared.promise.PromiseState.{PromiseState}
 use Rattle.ob_types.specs.declared.refusal.Refusal.{Refusal}
 use Rattle.ob_types.specs.declared.reply.Reply.{Reply}
 use Rattle.ob_seq.specs.Looks.{blocks_left}
 use Rattle.ob_seq.specs.Pending.{Pending}
-use Rattle.ob_seq.specs.Steps.Commands.{step_within, bytes_removed, whole_cut}
+use Rattle.ob_seq.specs.Steps.Commands.{step_within, bytes_removed, cut_of, first_length, whole_cut}
 use Rattle.ob_seq.specs.Steps.Step.{Step, Makes, first_of_step}
-use Rattle.ob_seq.specs.Unsent.{whole}
+use Rattle.ob_seq.specs.Unsent.{Unsent, pending_entries, whole}
 use Rattle.ob_seq.specs.declared.contents.cut.Cut.{Cut}
 use Rattle.ob_connection.specs.Connected.{Connected, connection_limit}
-use Rattle.ob_connection.specs.Obeying.{as_result, GivesUpBy, taken_reply, told_by}
-use Rattle.ob_connection.specs.declared.replies.Taken.{Taken}
+use Rattle.ob_connection.specs.Obeying.{told_by}
 
 -- outcomes of as many messages as are gone
 pub record Past (connection : Connected) : Type 0 where
@@ -51,19 +48,12 @@ abbrev pub Moves : {A : Type 0} → Connected → Command → (List PromiseState
     Connected → Type 0
 Moves old command tell result new = Steps (step_within connection_limit command) old tell result new
 
--- `bytes` bytes were taken away as sent, and this says which messages are gone by that
-abbrev pub TakesSent : Connected → ℕ → Taken → Connected → Type 0
-TakesSent old bytes taken new =
-    let result : Result Taken Refusal = Ok taken in Moves old (RemoveBytes bytes) taken_reply result new
-
--- it is open, and nothing stands in line
-abbrev pub HasNoLine : Connected → Type 0
-HasNoLine connection = (connection.unsent.closed ≡ false) × (length connection.unsent.line ≡ 0)
-
--- a connection is given up by calls that each make the step of their command
-abbrev pub FailsAll : Connected → Cause → Taken → Connected → Type 0
-FailsAll old cause taken new =
-    GivesUpBy (λ before command told after. Moves before command taken_reply (as_result told) after) old cause taken new
+-- a removal of some bytes ends there
+pub record IsCut (unsent : Unsent) (cut : Cut) : Type 0 where
+  pub bytes : ℕ
+  pub found : Some cut ≡ cut_of bytes (blocks_left (pending_entries unsent.line))
+  pub whole : cut.whole ≤ length unsent.line
+  pub rest : cut.rest ≤ first_length (drop cut.whole (pending_entries unsent.line))
 
 -- whatever outcomes the messages had that are gone, this is the first refusal of the command's step, or there is none
 abbrev pub IsFirstRefusal : Connected → Command → Option Refusal → Type 0

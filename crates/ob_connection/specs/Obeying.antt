@@ -115,15 +115,14 @@ IsQuiet result = IfOk result (λ taken. taken.change ≡ None)
 abbrev pub as_result : Taken → Result Taken Refusal
 as_result taken = Ok taken
 
--- what is flushed fails without notice, and then the connection closes, each as a call does it that takes messages
--- away; what both took away is one interval, and no change of writability is reported
-pub record GivesUpBy (Takes : Connected → Command → Taken → Connected → Type 0) (old : Connected) (cause : Cause)
-    (taken : Taken) (new : Connected) : Type 0 where
+-- a connection is given up: what is flushed fails without notice, and then it closes, each by a call that obeys its
+-- command; what both took away is one interval, and no change of writability is reported
+pub record GivesUp (old : Connected) (cause : Cause) (taken : Taken) (new : Connected) : Type 0 where
   pub between : Connected
   pub failed : Taken
   pub closed : Taken
-  pub fails : Takes old (FailFlushed cause false) failed between
-  pub closes : Takes between (Close cause) closed new
+  pub fails : Obeys old (FailFlushed cause false) taken_reply (as_result failed) between
+  pub closes : Obeys between (Close cause) taken_reply (as_result closed) new
   pub failed_next : IsNext old (Failed cause) (as_result failed) between
   pub closed_next : IsNext between (Failed cause) (as_result closed) new
   pub failed_quiet : IsQuiet (as_result failed)
@@ -135,8 +134,3 @@ pub record GivesUpBy (Takes : Connected → Command → Taken → Connected → 
     to = new.gone;
     outcome = Failed cause;
   }
-
--- a connection is given up by calls that each obey their command
-abbrev pub GivesUp : Connected → Cause → Taken → Connected → Type 0
-GivesUp old cause taken new =
-    GivesUpBy (λ before command told after. Obeys before command taken_reply (as_result told) after) old cause taken new

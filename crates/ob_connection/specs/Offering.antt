@@ -11,8 +11,8 @@ use Rattle.ob_connection.specs.Calls.{Call, calls_with, most_pieces, with_more}
 use Rattle.ob_connection.specs.Connected.{Connected}
 use Rattle.ob_connection.specs.declared.socket.SocketFault.{SocketFault}
 use Rattle.ob_connection.specs.declared.socket.SocketFault.TheVariants.{Blocked as HasNoRoom, Broken as IsBroken}
-use Rattle.ob_connection.specs.declared.inner.offer.Offer.{Offer}
-use Rattle.ob_connection.specs.declared.inner.offer.Offer.TheVariants.{Nothing, Took, Blocked, Broken}
+use Rattle.ob_connection.specs.declared.connection.offer.Offer.{Offer}
+use Rattle.ob_connection.specs.declared.connection.offer.Offer.TheVariants.{Nothing, Took, Blocked, Broken}
 
 -- the bytes left in each message in line before the first that is no block
 abbrev pub run_of : Unsent → List (List ℕ)

@@ -1,16 +1,23 @@
-ghost use Rattle.std.specs.Prelude.{◌≡◌, ◌≤◌, List, []};
+ghost use Rattle.std.specs.Prelude.{◌≡◌, ◌≤◌, List, [], true};
 ghost use Rattle.ob_types.specs.Limits.{greatest_overhead, greatest_unknown};
 ghost use Rattle.ob_types.specs.declared.command.Command.{Command};
-ghost use Rattle.ob_connection.specs.Connected.{StandsFor, Shrinks, room_in};
+ghost use Rattle.ob_seq.specs.Unsent.{waiting_count};
+ghost use Rattle.ob_connection.specs.Connected.{StandsFor, Shrinks, TakesNoRoom, accepted_writes, most_ids};
+ghost use Rattle.ob_connection.specs.Connected.{room_in, roomed};
 
 mod commands;
 mod copying;
 mod looks;
+mod offer;
 mod sending;
 mod state;
+mod take;
+mod turns;
+mod write;
 
-use crate::inner::Inner;
+use crate::chunk::Chunks;
 pub use copying::length_of_parts;
+use ob_seq::Contents;
 use ob_types::{Estimate, WaterMark};
 pub use sending::{SendFault, Sent};
 use std::alloc::Global;
@@ -29,18 +36,23 @@ use std::marker::Model;
 /// next removal.
 #[derive(Debug, Drop)]
 pub struct Connection {
-    inner: Inner,
+    contents: Contents,
+    /// How many messages are gone, which is the promise of the first that waits.
+    gone: u64,
+    /// What copied messages share.
+    chunks: Chunks,
 }
 
 /// Each connection holds what some list of accepted commands leaves.
 impl Model for Connection {
     ghost use Rattle.ob_connection.specs.Connected.{Connected, StandsForSome};
+    ghost use Rattle.ob_connection.specs.Inside.{connected_of};
 
     ghost Value = { Connected };
 
-    ghost view = { λ connection. connection.inner };
+    ghost view = { connected_of };
 
-    ghost invariant = { λ connection. StandsForSome connection.inner };
+    ghost invariant = { λ connection. StandsForSome (connected_of connection) };
 }
 
 impl Connection {
@@ -54,7 +66,9 @@ impl Connection {
         ensures room { room_in result ≡ 0 }
     {
         Connection {
-            inner: Inner::new(alloc, marks, estimate),
+            contents: Contents::new(alloc, marks, estimate),
+            gone: 0,
+            chunks: Chunks::new(alloc),
         }
     }
 
@@ -64,7 +78,7 @@ impl Connection {
     pub fn shrink_to_fit(&mut self)
         ensures { Shrinks self.old self.new }
     {
-        self.inner.shrink_to_fit();
+        self.contents.shrink_to_fit();
     }
 
     /// Each connection stands for some list of accepted commands, so what its calls promise is promised of some list. It
@@ -72,6 +86,26 @@ impl Connection {
     pub fn stands_for_some_commands(&self)
         ensures { (commands : List Command) × StandsFor self.now commands }
     {
-        let _inner = &self.inner;
+        let _gone = &self.gone;
+    }
+
+    /// How many writes were accepted, which is the id of the next one.
+    fn accepted_writes(&self) -> u64
+        ensures count { result ≡ accepted_writes self.now }
+        ensures within { result ≤ most_ids }
+    {
+        self.gone + self.contents.count() as u64
+    }
+
+    /// Gives memory back that what waits does not need, as `Contents::give_back`. If nothing waits no chunk is kept.
+    fn give_back(&mut self)
+        ensures same { self.new ≡ roomed (room_in self.new) self.old }
+        ensures less { TakesNoRoom self.old self.new }
+        ensures closed { self.old.unsent.closed ≡ true → waiting_count self.old.unsent ≡ 0 → room_in self.new ≡ 0 }
+    {
+        self.contents.give_back();
+        if self.contents.count() == 0 {
+            self.chunks.close();
+        }
     }
 }

@@ -5,7 +5,6 @@
 mod chunk;
 mod connection;
 mod ending;
-mod inner;
 mod laws;
 mod look;
 mod refused;

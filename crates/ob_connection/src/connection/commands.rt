@@ -32,7 +32,10 @@ impl Connection {
         ensures spares { spares self.old.unsent ≡ true → ¬ IsErrOf (answer_of_write result) Refusal.NoMemory }
         ensures returned { IfErr result (λ refused. refused.message ≡ message) }
     {
-        self.inner.write(message)
+        match self.admits(&message) {
+            Ok(size) => self.put(message, size),
+            Err(refusal) => Err(Refused { refusal, message }),
+        }
     }
 
     /// Lets the transport have all that was written so far, as `Buffer::flush` (Netty's `addFlush`), and returns how many
@@ -42,8 +45,8 @@ impl Connection {
         ensures frugal { ¬ IsErrOf result Refusal.NoMemory }
         ensures room { KeepsRoom self.old self.new }
     {
-        let count = self.inner.contents.unflushed_count() as u64;
-        let change = self.inner.contents.flush()?;
+        let count = self.contents.unflushed_count() as u64;
+        let change = self.contents.flush()?;
         Ok(Flushed { count, change })
     }
 
@@ -54,7 +57,7 @@ impl Connection {
         ensures frugal { ¬ IsErrOf result Refusal.NoMemory }
         ensures room { TakesNoRoom self.old self.new }
     {
-        self.inner.remove(Outcome::Success)
+        self.remove_as(Outcome::Success)
     }
 
     /// Takes the first flushed message away, as failed for this cause, as `Buffer::remove_with` (Netty's
@@ -64,7 +67,7 @@ impl Connection {
         ensures frugal { ¬ IsErrOf result Refusal.NoMemory }
         ensures room { TakesNoRoom self.old self.new }
     {
-        self.inner.remove(Outcome::Failed(cause))
+        self.remove_as(Outcome::Failed(cause))
     }
 
     /// Takes *n* bytes off the flushed blocks in front, as sent, as `Buffer::remove_bytes` (Netty's `removeBytes`), and
@@ -80,7 +83,13 @@ impl Connection {
         ensures frugal { ¬ IsErrOf result Refusal.NoMemory }
         ensures room { TakesNoRoom self.old self.new }
     {
-        self.inner.take_sent(n)
+        self.ask_open()?;
+        let Some(cut) = self.contents.find_cut(n) else {
+            return Err(Refusal::TooManyBytes);
+        };
+        let (before, from) = (self.contents.word(), self.gone);
+        self.take_cut(cut);
+        Ok(self.taken_since(before, from, Outcome::Success))
     }
 
     /// Adds *n* bytes to the progress of the first flushed message, as `Buffer::progress` (Netty's `progress`), and is
@@ -90,7 +99,7 @@ impl Connection {
         ensures frugal { ¬ IsErrOf result Refusal.NoMemory }
         ensures room { KeepsRoom self.old self.new }
     {
-        self.inner.contents.progress(n)
+        self.contents.progress(n)
     }
 
     /// Takes a promise back, as `Buffer::cancel` (Netty's `Future.cancel`), and returns whether that came in time. It takes
@@ -102,7 +111,7 @@ impl Connection {
         ensures frugal { ¬ IsErrOf result Refusal.NoMemory }
         ensures room { KeepsRoom self.old self.new }
     {
-        self.inner.contents.cancel(id, self.inner.gone)
+        self.contents.cancel(id, self.gone)
     }
 
     /// Takes all flushed messages away, as failed for this cause, as `Buffer::fail_flushed` (Netty's `failFlushed`), and
@@ -114,7 +123,13 @@ impl Connection {
         ensures frugal { ¬ IsErrOf result Refusal.NoMemory }
         ensures room { TakesNoRoom self.old self.new }
     {
-        self.inner.fail_flushed(cause, notify)
+        self.ask_open()?;
+        let (before, from) = (self.contents.word(), self.gone);
+        let count = self.contents.line_count();
+        self.contents.take_first(count, notify);
+        self.gone += count as u64;
+        self.give_back();
+        Ok(self.taken_since(before, from, Outcome::Failed(cause)))
     }
 
     /// Closes the connection for good, as `Buffer::close` (Netty's `close`), and returns which messages it took away, of
@@ -129,7 +144,16 @@ impl Connection {
         ensures frugal { ¬ IsErrOf result Refusal.NoMemory }
         ensures room { OnOk result (room_in self.new ≡ 0) }
     {
-        self.inner.close(cause)
+        self.ask_open()?;
+        if self.contents.line_count() > 0 {
+            return Err(Refusal::FlushedLeft);
+        }
+        let (before, from) = (self.contents.word(), self.gone);
+        self.gone = self.accepted_writes();
+        self.contents.shut();
+        let taken = self.taken_since(before, from, Outcome::Failed(cause));
+        self.give_back();
+        Ok(taken)
     }
 
     /// Gives the connection up: fails what is flushed for this cause without notice, and closes for it, as
@@ -145,10 +169,22 @@ impl Connection {
         ensures closed { IfErr result (λ refusal. refusal ≡ Refusal.Closed) }
         ensures room { OnOk result (room_in self.new ≡ 0) }
     {
-        if self.is_closed() {
-            return Err(Refusal::Closed);
-        }
-        Ok(self.inner.give_up(cause))
+        self.ask_open()?;
+        self.stands_for_some_commands();
+        let from = self.gone;
+        let Ok(_failed) = self.fail_flushed(cause, false) else {
+            unreachable!();
+        };
+        let Ok(_closed) = self.close(cause) else {
+            unreachable!();
+        };
+        Ok(Taken {
+            count: self.gone - from,
+            change: None,
+            from,
+            to: self.gone,
+            outcome: Outcome::Failed(cause),
+        })
     }
 
     /// Sets the user bit of this index, or clears it if `writable` is set, as `Buffer::user_bit` (Netty's
@@ -160,7 +196,7 @@ impl Connection {
         ensures frugal { ¬ IsErrOf result Refusal.NoMemory }
         ensures room { KeepsRoom self.old self.new }
     {
-        self.inner.contents.user_bit(index, writable)
+        self.contents.user_bit(index, writable)
     }
 
     /// Sets the marks that are in force from now on, as `Buffer::set_marks`: it moves no bit, so it changes no writability.
@@ -170,6 +206,6 @@ impl Connection {
         ensures frugal { ¬ IsErrOf result Refusal.NoMemory }
         ensures room { KeepsRoom self.old self.new }
     {
-        self.inner.contents.set_marks(marks)
+        self.contents.set_marks(marks)
     }
 }

@@ -1,7 +1,6 @@
 //! Messages that are written as bytes.
 
-ghost use Rattle.std.specs.Prelude.{◌≡◌, ◌<◌, ℕ, List, length, Ok, Some, None, IfSome, IsErrOf, OnOk};
-ghost use Rattle.std.specs.Result.{result_err};
+ghost use Rattle.std.specs.Prelude.{◌≡◌, ◌<◌, ℕ, List, length, Ok, Some, None, IfSome, OnOk};
 ghost use Rattle.ob_types.specs.Limits.{greatest_pending_size};
 ghost use Rattle.ob_types.specs.declared.command.Command.TheVariants.{Write};
 ghost use Rattle.ob_types.specs.declared.message.Message.TheVariants.{Block};
@@ -9,14 +8,15 @@ ghost use Rattle.ob_seq.specs.Unsent.{room_for_one_more};
 ghost use Rattle.ob_connection.specs.Connected.{room_in};
 ghost use Rattle.ob_connection.specs.Inside.{admission};
 ghost use Rattle.ob_connection.specs.Looks.{Refuses};
-ghost use Rattle.ob_connection.specs.Obeying.{Obeys, answer_of_write, joined, written_reply};
+ghost use Rattle.ob_connection.specs.Obeying.{Obeys, joined, written_reply};
 
 use crate::connection::Connection;
-use crate::inner::write::MAX_WRITES;
-use crate::refused::Refused;
 use crate::replies::Written;
 use bytes::Bytes;
-use ob_types::{Message, Refusal, pending_size_of_length};
+use ob_types::{Message, Refusal};
+
+/// How many messages wait at least when the next one shares a chunk: few would pay for one.
+const SHARING: usize = 4;
 
 impl Connection {
     /// Adds a copy of these bytes behind all others, as `write` adds a block, and returns its promise. Small messages
@@ -30,7 +30,7 @@ impl Connection {
         ensures room { OnOk result (room_in self.new ≡ room_for_one_more self.old.unsent) }
     {
         let size = self.admits_block(bytes.len())?;
-        let block = self.inner.copy(bytes)?;
+        let block = self.chunks.copy(bytes, self.contents.count() >= SHARING)?;
         self.put_block(block, size)
     }
 
@@ -59,7 +59,9 @@ impl Connection {
             return Err(self.refusal_of_too_long());
         };
         let size = self.admits_block(count)?;
-        let block = self.inner.copy_parts(parts, count)?;
+        let block = self
+            .chunks
+            .copy_parts(parts, count, self.contents.count() >= SHARING)?;
         self.put_block(block, size)
     }
 
@@ -76,19 +78,6 @@ impl Connection {
         }
     }
 
-    /// What a block of *n* bytes counts, unless anything but lack of memory refuses its write.
-    #[inline(always)]
-    pub(crate) fn admits_block(&self, n: usize) -> Result<u32, Refusal>
-        ensures admits { (bytes : List ℕ) → length bytes ≡ n → result ≡ admission self.now (Block bytes) }
-        ensures first { (bytes : List ℕ) → length bytes ≡ n → Refuses self.now (Write (Block bytes)) (result_err result) }
-        ensures other { ¬ IsErrOf result Refusal.NoMemory }
-    {
-        let size = pending_size_of_length(n as u64, self.inner.contents.estimate());
-        self.inner
-            .contents
-            .admits(size, self.inner.accepted_writes(), MAX_WRITES)
-    }
-
     /// Writes a block that is admitted and counts `size`; it is let go if that is refused.
     #[inline(always)]
     fn put_block(&mut self, block: Bytes, size: u32) -> Result<Written, Refusal>
@@ -98,16 +87,6 @@ impl Connection {
     {
         self.put(Message::Block(block), size)
             .map_err(|refused| refused.refusal)
-    }
-
-    /// Writes a message that is admitted and counts `size`.
-    #[inline(always)]
-    fn put(&mut self, message: Message, size: u32) -> Result<Written, Refused>
-        requires { admission self.old message ≡ Ok size }
-        ensures obeys { Obeys self.old (Write message) written_reply (answer_of_write result) self.new }
-        ensures room { OnOk result (room_in self.new ≡ room_for_one_more self.old.unsent) }
-    {
-        self.inner.put(message, size)
     }
 }
 

@@ -20,7 +20,7 @@ impl Connection {
     pub fn current(&self) -> Option<&Message>
         ensures { IsCurrent self.now (option_copied result) }
     {
-        self.inner.contents().current()
+        self.contents.current()
     }
 
     /// The promise of the first flushed message, which is the one that `current` shows; none exactly if `current` is none.
@@ -29,10 +29,10 @@ impl Connection {
     pub fn front(&self) -> Option<u64>
         ensures { IsFrontPromise self.now result }
     {
-        if self.inner.contents().line_count() == 0 {
+        if self.contents.line_count() == 0 {
             return None;
         }
-        Some(self.inner.gone())
+        Some(self.gone)
     }
 
     /// What is left of each flushed message that was not voided, oldest first (Netty's `forEachFlushedMessage`). It
@@ -40,7 +40,7 @@ impl Connection {
     pub fn flushed(&self) -> Flushed<'_>
         ensures { AreFlushed self.now result }
     {
-        self.inner.contents().to_send()
+        self.contents.to_send()
     }
 
     /// The flushed blocks in front that can be sent at once (Netty's `nioBuffers`): those that hold a byte, up to the first
@@ -56,7 +56,7 @@ impl Connection {
         ensures frugal { (commands : List Command) → StandsFor self.now commands
             → gathered_after self.now.unsent.settings commands max_count max_bytes ≡ [] → IsOk result }
     {
-        self.inner.contents().gather(max_count, max_bytes)
+        self.contents.gather(max_count, max_bytes)
     }
 
     /// Puts the blocks that `gather` gives for as many as there are pieces into these pieces, from the first on, and
@@ -69,6 +69,6 @@ impl Connection {
         ensures within { result ≤ length pieces.old }
         ensures rest { drop result pieces.new ≡ drop result pieces.old }
     {
-        self.inner.contents().gather_into(pieces, max_bytes)
+        self.contents.gather_into(pieces, max_bytes)
     }
 }

@@ -7,9 +7,10 @@ ghost use Rattle.ob_connection.specs.Sending.{Asks, EndsSending, sent_or_fault, 
 ghost use Rattle.ob_connection.specs.Connected.{TakesNoRoom};
 
 use crate::connection::Connection;
-use crate::inner::offer::Offer;
+use crate::connection::offer::Offer;
 use crate::replies::{SentTurns, Taken};
 use crate::socket::Socket;
+use ob_types::Outcome;
 use std::io;
 use thiserror::Error;
 
@@ -65,7 +66,7 @@ impl Connection {
         if self.is_closed() {
             return Err(SendFault::Closed);
         }
-        let offer = self.inner.offer(socket, max_count, max_bytes);
+        let offer = self.offer(socket, max_count, max_bytes);
         let bytes = taken_of(offer)?;
         // What was written is of what stands in front, so an open connection takes it away.
         self.stands_for_some_commands();
@@ -113,7 +114,21 @@ impl Connection {
             return Err(SendFault::Closed);
         }
         self.stands_for_some_commands();
-        Ok(self.inner.send_turns(socket, max_turns, max_bytes))
+        let (before, from) = (self.contents.word(), self.gone);
+        let (mut bytes, mut ending) = self.send_turn(socket, max_bytes);
+        for _ in 1..max_turns {
+            if !ending.goes_on() {
+                break;
+            }
+            let (more, after) = self.send_turn(socket, max_bytes);
+            bytes += more;
+            ending = after;
+        }
+        Ok(SentTurns {
+            bytes,
+            taken: self.taken_since(before, from, Outcome::Success),
+            ending,
+        })
     }
 }
 

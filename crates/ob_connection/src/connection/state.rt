@@ -17,7 +17,7 @@ impl Connection {
     pub fn look(&self) -> Look
         ensures { Shows self.now result }
     {
-        let contents = self.inner.contents();
+        let contents = &self.contents;
         Look {
             total: contents.total(),
             word: contents.word(),
@@ -33,7 +33,7 @@ impl Connection {
     pub fn is_writable(&self) -> bool
         ensures { Gives self.now writable_after result }
     {
-        self.inner.contents().word() == 0
+        self.contents.word() == 0
     }
 
     /// Whether no message is flushed and not yet removed, voided ones too (Netty's `isEmpty`). As in Netty, messages
@@ -41,14 +41,14 @@ impl Connection {
     pub fn is_empty(&self) -> bool
         ensures { Gives self.now empty_after result }
     {
-        self.inner.contents().line_count() == 0
+        self.contents.line_count() == 0
     }
 
     /// How many messages no flush has reached. It does not allocate. Netty shows them to nobody; our own.
     pub fn unflushed_count(&self) -> u64
         ensures { Gives self.now unflushed_count_after result }
     {
-        self.inner.contents().unflushed_count() as u64
+        self.contents.unflushed_count() as u64
     }
 
     /// How many messages wait: those that are flushed and not yet removed, voided ones too, and those that no flush has
@@ -56,7 +56,7 @@ impl Connection {
     pub fn waiting_count(&self) -> u64
         ensures { Gives self.now waiting_count_after result }
     {
-        self.inner.contents().count() as u64
+        self.contents.count() as u64
     }
 
     /// For how many messages its ring has room. A message takes one place of 64 bytes as long as it waits. A write takes
@@ -65,28 +65,28 @@ impl Connection {
     pub fn room(&self) -> usize
         ensures { result ≡ room_in self.now }
     {
-        self.inner.contents().room()
+        self.contents.room()
     }
 
     /// The marks in force: those of the last `set_marks`, and before it those of the opening. It does not allocate.
     pub fn marks(&self) -> WaterMark
         ensures { Gives self.now marks_after result }
     {
-        self.inner.contents().marks()
+        self.contents.marks()
     }
 
     /// By what messages are counted: the estimate of the opening. It does not allocate.
     pub fn estimate(&self) -> Estimate
         ensures { result ≡ self.now.unsent.settings.estimate }
     {
-        self.inner.contents().estimate()
+        self.contents.estimate()
     }
 
     /// Whether a close was accepted: from then on each command is refused as `Closed`. It does not allocate.
     pub fn is_closed(&self) -> bool
         ensures { Gives self.now closed_after result }
     {
-        self.inner.contents().is_closed()
+        self.contents.is_closed()
     }
 
     /// Why a write of these bytes as a block would be refused now, or nothing if it would be accepted while there is
@@ -112,13 +112,13 @@ impl Connection {
     pub fn promise(&self, id: u64) -> Option<Status>
         ensures { Tells self.now id result }
     {
-        if id >= self.inner.accepted_writes() {
+        if id >= self.accepted_writes() {
             return None;
         }
-        if id < self.inner.gone() {
+        if id < self.gone {
             return Some(Status::SettledBefore);
         }
-        let place = (id - self.inner.gone()) as usize;
-        Some(Status::of(self.inner.contents().state_at(place)))
+        let place = (id - self.gone) as usize;
+        Some(Status::of(self.contents.state_at(place)))
     }
 }

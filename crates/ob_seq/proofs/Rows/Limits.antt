@@ -80,6 +80,11 @@ module _ (settings : Settings) where
       kept_along_within (Some most) settings (IsWithin most) (one_more_within most) [] commands all
       (record { sum = omega arith; count = omega arith; right = tt; gone = λ closed. tt })
 
+  -- so under every limit on writes no more rows stand there than it allows
+  pub rows_within : (most : ℕ) (commands : List Command) → are_accepted_within (Some most) settings [] commands ≡ true →
+      length (rows_after estimate commands) ≤ most
+  rows_within most commands all = (within_after most commands all).count
+
   -- no more bytes of a row in line are unread than it counts
   unread_le : (row : Row) → is_in_line row ≡ true → row.size ≡ counted_bytes estimate row.message →
       length (block_bytes (unread_part row)) ≤ counted_size row

@@ -1,5 +1,5 @@
 use Rattle.ob_connection.proofs.Words.{◌≡◌, ◌<◌, ◌≤◌, ◌+◌, ◌-◌, ◌++◌, ◌∷◌, [], ℕ, zero, suc, List, false, length, map, ltb, arith}
-use Rattle.ob_connection.proofs.Words.{nat_tests, sym, ap, ◌∙◌, refl, whole, Some, Unsent, Past, held, Connected}
+use Rattle.ob_connection.proofs.Words.{nat_tests, sym, ap, ◌∙◌, refl, whole, Some, Past, held, Connected, connected_of}
 use Rattle.ob_connection.proofs.Words.{Command, Outcome, PromiseState, Pending, Leaves, StandsFor, accepted_writes}
 use Rattle.std.proofs.Common.{get_or}
 use Rattle.std.proofs.lemmas.Option.{slice_get-get_or, slice_get-map}
@@ -37,33 +37,32 @@ behind gone id late Fixed = refl
 behind gone id late (Settled outcome) = let test : ltb id gone ≡ false = grind (arith, nat_tests) in rw test refl
 
 -- the promise of a message that waits, by the state that is found at its place
-told_late : (inner : Connected) {unsent : Unsent} {first count : ℕ} (id : ℕ) {state : PromiseState} → first ≡ inner.gone → inner.gone ≤ id → count ≡ accepted_writes inner → id < count →
-    unsent ≡ inner.unsent →
-    ((gone : List Outcome) → state ≡ state_at (whole gone unsent) (length gone + (id - first))) →
-    (commands : List Command) → StandsFor inner commands →
+told_late : (now : Connected) {count : ℕ} (id : ℕ) {state : PromiseState} → now.gone ≤ id → count ≡ accepted_writes now → id < count →
+    ((gone : List Outcome) → state ≡ state_at (whole gone now.unsent) (length gone + (id - now.gone))) →
+    (commands : List Command) → StandsFor now commands →
     Some (waiting_status state)
-    ≡ status_of inner.gone id (promise_after inner.unsent.settings commands (record { 0 = id }))
-told_late inner {unsent} {first} id {state} begins late all within there is commands stands =
-    let past : Past inner = record { outcomes = stands.past; count = stands.forgotten } in
-    let here : length stands.past + (id - first) ≡ id = omega (arith, stands.forgotten, begins, late) in
+    ≡ status_of now.gone id (promise_after now.unsent.settings commands (record { 0 = id }))
+told_late now id {state} late all within is commands stands =
+    let past : Past now = record { outcomes = stands.past; count = stands.forgotten } in
+    let here : length stands.past + (id - now.gone) ≡ id = omega (arith, stands.forgotten, late) in
     let few : id < length (held past).promises = omega (arith, ids_are past, all, within) in
-    ap (λ one. Some (waiting_status one))
-    (is stands.past
-    ∙ ap (λ (one : Unsent). state_at (whole stands.past one) (length stands.past + (id - first))) there
-    ∙ ap (state_at (held past)) here)
-    ∙ behind inner.gone id late (state_at (held past) id)
-    ∙ sym (told inner.gone id (held past) commands stands.leaves few)
+    ap (λ one. Some (waiting_status one)) (is stands.past ∙ ap (state_at (held past)) here)
+    ∙ behind now.gone id late (state_at (held past) id)
+    ∙ sym (told now.gone id (held past) commands stands.leaves few)
 
-pub returns-then-id-gone : goal.returns-then-id-gone
-returns-then-id-gone c = rw (← c.self.view_is) (λ commands stands.
-    let past : Past c.self.inside.inner = record { outcomes = stands.past; count = stands.forgotten } in
+pub returns-then-id-self : goal.returns-then-id-self
+returns-then-id-self c = rw (← c.self.view_is) (λ commands stands.
+    let past : Past (connected_of c.self.inside) = record { outcomes = stands.past; count = stands.forgotten } in
     let now = held past in
-    let early : c.args.id < c.self.inside.inner.gone = omega (arith, c.gone.ensures, c.if-id-gone.true) in
+    let early : c.args.id < c.self.inside.gone = omega (arith, c.if-id-self.true) in
     let within : c.args.id < length now.promises =
-    omega (arith, ids_are past, c.accepted_writes.ensures.count, c.if-id-accepted_writes.false) in
+    omega (arith, ids_are past, c.accepted_writes.ensures.count, ap accepted_writes c.self.view_is, c.if-id-accepted_writes.false) in
     let settled = gone_settled stands.past _ c.args.id (omega (arith, early, stands.forgotten)) in
-    before c.self.inside.inner.gone c.args.id (state_at now c.args.id) settled.0 settled.1 early
-    ∙ sym (told c.self.inside.inner.gone c.args.id now commands stands.leaves within))
+    before c.self.inside.gone c.args.id (state_at now c.args.id) settled.0 settled.1 early
+    ∙ sym (told c.self.inside.gone c.args.id now commands stands.leaves within))
 
 pub returns : goal.returns
-returns c = grind (arith, told_late)
+returns c = rw (c.of.ensures, ← c.self.view_is)
+    (told_late (connected_of c.self.inside) c.args.id (omega (arith, c.if-id-self.false))
+    (c.accepted_writes.ensures.count ∙ ap accepted_writes (sym c.self.view_is))
+    (omega (arith, c.if-id-accepted_writes.false)) c.state_at.ensures)

@@ -3,8 +3,8 @@ use Rattle.ob_connection.proofs.Obeyed.{obeys_within, stays_within}
 use Rattle.ob_connection.proofs.connection.Connection.set_marks.Goals as goal
 
 pub invariant_of-self : goal.invariant_of-self
-invariant_of-self c = stays_within (SetMarks c.args.marks) c.self-inside.view_is c.set_marks.ensures c.self.invariant
+invariant_of-self c = stays_within (SetMarks c.args.marks) c.set_marks.ensures c.self.invariant
 
 pub returns-clause-obeys : goal.returns-clause-obeys
 returns-clause-obeys c =
-    obeys_within (SetMarks c.args.marks) c.self-inside.view_is c.set_marks.ensures c.self.invariant c.self.view_is
+    obeys_within (SetMarks c.args.marks) c.set_marks.ensures c.self.view_is

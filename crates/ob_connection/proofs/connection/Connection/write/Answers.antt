@@ -1,9 +1,7 @@
 use Rattle.ob_types.specs.declared.command.Command.TheVariants.{Write}
-use Rattle.ob_connection.proofs.Obeyed.{obeys, stays}
+use Rattle.ob_connection.proofs.Asking.{refused_moves}
+use Rattle.ob_connection.proofs.Obeyed.{obeys}
 use Rattle.ob_connection.proofs.connection.Connection.write.Goals as goal
 
-pub invariant_of-self : goal.invariant_of-self
-invariant_of-self c = stays (Write c.args.message) c.write.ensures.moves c.self.invariant
-
-pub returns-clause-obeys : goal.returns-clause-obeys
-returns-clause-obeys c = rw (← c.self.view_is) (obeys (Write c.args.message) c.write.ensures.moves c.self.invariant)
+pub returns-in-Err-clause-obeys : goal.returns-in-Err-clause-obeys
+returns-in-Err-clause-obeys c = obeys (Write c.args.message) (refused_moves c.args.message c.in-Err.ensures)

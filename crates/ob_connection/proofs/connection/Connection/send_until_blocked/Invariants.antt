@@ -1,4 +1,4 @@
-use Rattle.ob_connection.proofs.Words.{◌≡◌, ◌≤◌, ◌+◌, take, Becomes}
+use Rattle.ob_connection.proofs.Words.{◌≡◌, ◌≤◌, ◌+◌, take, Becomes, false}
 use Rattle.std.specs.List.{concat}
 use Rattle.std.specs.Prelude.{max}
 use Rattle.ob_seq.specs.Effect.{bytes_in}
@@ -8,7 +8,7 @@ use Rattle.ob_connection.specs.Connected.{TakesNoRoom}
 use Rattle.ob_connection.specs.Offering.{EndsAt, IsLeft, run_of}
 use Rattle.ob_connection.specs.Calls.{with_more}
 use Rattle.ob_connection.specs.Sending.{AsksInTurns}
-use Rattle.ob_connection.proofs.inner.Inner.send_turns.Given as goal
+use Rattle.ob_connection.proofs.connection.Connection.send_until_blocked.Given as goal
 
 abbrev pub invariant-loop : goal.invariant-loop
 invariant-loop g l = record {
@@ -21,5 +21,6 @@ invariant-loop g l = record {
   asks : AsksInTurns (IsLeft l.fn.max_bytes l.fn.self) l.counter l.bytes (g.S.Socket.calls l.fn.socket) l.ending
       (g.S.Socket.calls l.socket);
   ends : EndsAt l.self.unsent l.ending;
+  still_open : l.self.unsent.closed ≡ false;
   room : TakesNoRoom l.fn.self l.self;
 }

@@ -1,7 +1,7 @@
 use Rattle.ob_connection.proofs.Words.{arith}
 use Rattle.ob_connection.specs.Calls.{most_pieces}
 use Rattle.ob_connection.proofs.Offered.{few_offers}
-use Rattle.ob_connection.proofs.inner.Inner.offer_few.Goals as goal
+use Rattle.ob_connection.proofs.connection.Connection.offer_few.Goals as goal
 
 pub returns : goal.returns
 returns g c =

@@ -4,10 +4,10 @@ use Rattle.ob_connection.specs.Offering.{answer_of}
 use Rattle.ob_connection.specs.Sending.{EndsWithin}
 use Rattle.ob_connection.specs.declared.ending.Ending.{Ending}
 use Rattle.ob_connection.specs.declared.ending.Ending.TheVariants.{Blocked, Broken}
-use Rattle.ob_connection.specs.declared.inner.offer.Offer.{Offer}
-use Rattle.ob_connection.specs.declared.inner.offer.Offer.TheVariants.{Took}
+use Rattle.ob_connection.specs.declared.connection.offer.Offer.{Offer}
+use Rattle.ob_connection.specs.declared.connection.offer.Offer.TheVariants.{Took}
 use Rattle.ob_connection.proofs.Answered.{stopped_at_once}
-use Rattle.ob_connection.proofs.inner.Inner.ending_after.Goals as goal
+use Rattle.ob_connection.proofs.connection.Connection.ending_after.Goals as goal
 
 -- an ending by the offer that it is given
 by_offer : {told offer : Offer} (ending : Ending) → told ≡ offer → EndsWithin 1 (answers_in (answer_of offer)) ending →

@@ -6,7 +6,7 @@ ghost use Rattle.std.specs.Prelude.{◌≡◌, ◌≤◌, length, take, map, min
 ghost use Rattle.ob_connection.specs.Calls.{calls_with, had_no_room, most_pieces, with_more};
 ghost use Rattle.ob_connection.specs.Offering.{answer_of, bytes_taken, Offers};
 
-use crate::inner::Inner;
+use crate::connection::Connection;
 use crate::socket::{Socket, SocketFault};
 use std::io;
 use std::io::IoSlice;
@@ -53,10 +53,10 @@ impl Offer {
     }
 }
 
-impl Inner {
+impl Connection {
     /// Offers a socket the blocks in front, at most `max_count` of them and at most 1024, and together at most
     /// `max_bytes` bytes, but the first however long it is. It does not allocate.
-    pub fn offer<S: Socket>(&self, socket: &mut S, max_count: u32, max_bytes: u32) -> Offer
+    pub(super) fn offer<S: Socket>(&self, socket: &mut S, max_count: u32, max_bytes: u32) -> Offer
         ensures { Offers (min most_pieces max_count) max_bytes self.now.unsent (S.sent socket.old)
             (S.calls socket.old) result (S.sent socket.new) (S.calls socket.new) }
     {

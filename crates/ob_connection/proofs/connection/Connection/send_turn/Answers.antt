@@ -7,14 +7,14 @@ use Rattle.ob_connection.specs.Offering.{answer_of, IsLeft, offered, run_of}
 use Rattle.ob_connection.proofs.Answered.{answers_are, due_at_once, taken_by}
 use Rattle.ob_connection.proofs.TurnOffers.{first_offer, offered_first, offered_none, offered_some}
 use Rattle.ob_connection.proofs.Turns.{run_mid, some_in_line}
-use Rattle.ob_connection.proofs.inner.Inner.send_turn.Goals as goal
+use Rattle.ob_connection.proofs.connection.Connection.send_turn.Goals as goal
 
 -- as many bytes as the socket took
 same_within : {bytes taken : ℕ} (all : List ℕ) → bytes ≡ taken → taken ≤ length all → bytes ≤ length all
 same_within all same within = omega (arith, same, within)
 
-pub take_bytes-requires : goal.take_bytes-requires
-take_bytes-requires g c =
+pub take_bytes-requires-clause-few : goal.take_bytes-requires-clause-few
+take_bytes-requires-clause-few g c =
     let now = c.args.self.now.unsent in
     let within = same_within (concat (offered most_pieces c.args.max_bytes now)) c.bytes-bytes.ensures
     c.offer-offer.ensures.within in
@@ -81,5 +81,6 @@ returns g c =
         ends = rw (answers_are pieces (answer_of c.offer-offer.result)) c.ending_after.ensures.asked;
       };
       ends = c.ending_after.ensures.left;
+      still_open = c.take_bytes.ensures.still_open;
       room = c.take_bytes.ensures.room;
     }

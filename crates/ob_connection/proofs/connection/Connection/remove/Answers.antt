@@ -1,9 +1,0 @@
-use Rattle.ob_types.specs.declared.command.Command.TheVariants.{Remove}
-use Rattle.ob_connection.proofs.Obeyed.{obeys, stays}
-use Rattle.ob_connection.proofs.connection.Connection.remove.Goals as goal
-
-pub invariant_of-self : goal.invariant_of-self
-invariant_of-self c = stays Remove c.remove.ensures.steps c.self.invariant
-
-pub returns-clause-obeys : goal.returns-clause-obeys
-returns-clause-obeys c = rw (← c.self.view_is) (obeys Remove c.remove.ensures.steps c.self.invariant)
