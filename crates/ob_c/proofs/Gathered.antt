@@ -11,7 +11,7 @@ use Rattle.ob_seq.specs.Rows.{line, Row, Place, unread_part, without_skipped, is
 use Rattle.ob_seq.proofs.Words.{cond, take_while-cons}
 use Rattle.ob_seq.proofs.Inside.Gathered.{ended, first_blocks_are, more_blocks, none_left, passed, pushed}
 use Rattle.ob_connection.specs.Connected.{Connected, Gives}
-use Rattle.ob_connection.specs.Looks.{AreFlushed}
+use Rattle.ob_connection.specs.Connected.{AreFlushed}
 use Rattle.ob_c.specs.Gathering.{AreAt, gathered_as, piece_of}
 use Rattle.ob_c.specs.declared.pieces.Piece.{Piece}
 

@@ -5,7 +5,7 @@ use denote.Ref.{Bor}
 use Rattle.ob_types.specs.declared.message.Message.{Message}
 use Rattle.ob_types.specs.declared.message.Message.TheVariants.{Block, Region, Other}
 use Rattle.ob_connection.specs.Connected.{Connected}
-use Rattle.ob_connection.specs.Looks.{AreGathered, IsCurrent}
+use Rattle.ob_connection.specs.Connected.{AreGathered, IsCurrent}
 use Rattle.ob_c.specs.Numbers.{done, not_open}
 use Rattle.ob_c.specs.declared.gather.Gathered.{Gathered}
 use Rattle.ob_c.specs.declared.pieces.Piece.{Piece}

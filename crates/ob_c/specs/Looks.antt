@@ -9,7 +9,7 @@ use Rattle.ob_seq.specs.Looks.{current_after, look_after}
 use Rattle.ob_seq.specs.Rows.{Settings}
 use Rattle.ob_seq.specs.State.{marks_after}
 use Rattle.ob_connection.specs.Connected.{Connected, Gives}
-use Rattle.ob_connection.specs.Looks.{unflushed_count_after, waiting_count_after}
+use Rattle.ob_connection.specs.Connected.{unflushed_count_after, waiting_count_after}
 use Rattle.ob_connection.specs.declared.look.Look.{Look as LookReply}
 use Rattle.ob_connection.specs.declared.status.Status.{Status}
 use Rattle.ob_connection.specs.declared.status.Status.TheVariants.{Waiting, Fixed, Settled, SettledBefore}

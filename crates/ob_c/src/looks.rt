@@ -1,7 +1,7 @@
 //! The looks. Each takes the handle as a command does, and leaves the connection as it was.
 
 ghost use Rattle.ob_seq.specs.State.{writable_after, closed_after, empty_after};
-ghost use Rattle.ob_connection.specs.Looks.{Shows, IsFrontPromise, Tells as TellsOf};
+ghost use Rattle.ob_connection.specs.Connected.{Shows, IsFrontPromise, Tells as TellsOf};
 ghost use Rattle.ob_connection.specs.Connected.{Gives};
 ghost use Rattle.ob_c.specs.Looks.{Tells, AreCounted, AreInForce, IsLeft, counts_in_c, look_in_c, settings_in_c, truth_in_c, promise_in_c, front_in_c, current_in_c};
 

@@ -1,7 +1,7 @@
 //! The looks at a managed connection. Each takes the struct as a command does, and leaves the connection as it was.
 
 ghost use Rattle.std.specs.Prelude.{◌≡◌, drop, length};
-ghost use Rattle.ob_connection.specs.Looks.{Shows, IsFrontPromise, Tells as TellsOf};
+ghost use Rattle.ob_connection.specs.Connected.{Shows, IsFrontPromise, Tells as TellsOf};
 ghost use Rattle.ob_c.specs.Gathering.{Gathers};
 ghost use Rattle.ob_c.specs.Looks.{Tells, IsLeft, current_in_c, front_in_c, look_in_c, promise_in_c};
 ghost use Rattle.ob_c.specs.Managing.{ShowsNumbers, StandsSo, connection_of, count_in_c, none_refused, numbers_in_c, refusals_in_c, state_in_c};

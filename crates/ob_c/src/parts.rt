@@ -4,7 +4,7 @@ ghost use Rattle.std.specs.Prelude.{◌≡◌, ◌≤◌, ◌<◌, ℕ, List, le
 ghost use Rattle.ob_types.specs.Limits.{greatest_pending_size};
 ghost use Rattle.ob_types.specs.declared.command.Command.TheVariants.{Write};
 ghost use Rattle.ob_types.specs.declared.message.Message.TheVariants.{Block as AsBlock};
-ghost use Rattle.ob_connection.specs.Looks.{Refuses};
+ghost use Rattle.ob_connection.specs.Connected.{Refuses};
 ghost use Rattle.ob_connection.specs.Obeying.{Obeys, written_reply, joined};
 ghost use Rattle.ob_c.specs.Obeying.{ObeysFor};
 ghost use Rattle.ob_c.specs.Parts.{slices_of};

@@ -5,7 +5,7 @@ ghost use Rattle.ob_types.specs.Marks.{water_mark_of};
 ghost use Rattle.ob_types.specs.declared.command.Command.TheVariants as command;
 ghost use Rattle.ob_types.specs.declared.message.Message.TheVariants.{Block as AsBlock, Region as AsRegion, Other as AsOther};
 ghost use Rattle.ob_types.specs.declared.promise.Outcome.TheVariants.{Failed};
-ghost use Rattle.ob_connection.specs.Looks.{Shows, Tells};
+ghost use Rattle.ob_connection.specs.Connected.{Shows, Tells};
 ghost use Rattle.ob_connection.specs.Obeying.{bit_reply, cancelled_reply, flushed_reply};
 ghost use Rattle.ob_shared_connection.specs.Calls.{Makes, ObeyingFreely, Puts, PutsAndFlushes, TakingQuietly};
 ghost use Rattle.ob_c.specs.Looks.{look_or_status, promise_or_status};

@@ -10,7 +10,7 @@ use Rattle.ob_connection.specs.Sending.{AllTook, AsksInTurns, ended_by, EndsWith
 use Rattle.ob_connection.specs.declared.ending.Ending.{Ending}
 use Rattle.ob_connection.specs.declared.ending.Ending.TheVariants.{Drained, Blocked, OtherInFront, TurnsUsed, Broken}
 use Rattle.ob_connection.specs.declared.socket.SocketFault.{SocketFault}
-use Rattle.ob_connection.specs.Offering.{answer_of, bytes_taken}
+use Rattle.ob_connection.specs.Inside.{answer_of, bytes_taken}
 use Rattle.ob_connection.specs.declared.connection.offer.Offer.{Offer}
 use Rattle.ob_connection.specs.declared.connection.offer.Offer.TheVariants.{Nothing, Took, Blocked as AskedBlocked, Broken as AskedBroken}
 use Rattle.ob_connection.proofs.Offered.{taken_twice}

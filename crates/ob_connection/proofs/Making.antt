@@ -6,7 +6,7 @@ use Rattle.ob_connection.proofs.Words.{connection_limit, ℕ, ◌+◌, ◌++◌,
 use Rattle.std.proofs.lemmas.List.{length-map, length-take-le}
 use Rattle.ob_seq.specs.Unsent.{ended}
 use Rattle.ob_seq.proofs.Inside.Made.{first_where_open, makes_refused, makes_taken}
-use Rattle.ob_connection.specs.Becoming.{Becomes, IsFirstRefusal}
+use Rattle.ob_connection.specs.Inside.{Becomes, IsFirstRefusal}
 use Rattle.ob_connection.specs.Connected.{room_in, roomed}
 
 -- what waits makes its step, and so does a connection, by a call that lets no message go

@@ -12,7 +12,7 @@ use Rattle.ob_types.specs.declared.message.Message.{Message}
 use Rattle.ob_seq.specs.Effect.{blocks_in_front}
 use Rattle.ob_seq.specs.Looks.{with_bytes}
 use Rattle.ob_connection.specs.Calls.{Call, with_more}
-use Rattle.ob_connection.specs.Offering.{Offers, offered}
+use Rattle.ob_connection.specs.Inside.{Offers, offered}
 use Rattle.ob_connection.specs.declared.connection.offer.Offer.{Offer}
 
 -- the bytes of pieces, one after another

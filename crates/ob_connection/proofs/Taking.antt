@@ -18,7 +18,7 @@ use Rattle.ob_seq.specs.Unsent.{ended, pending_entry}
 use Rattle.ob_seq.specs.declared.contents.cut.Cut.{Cut}
 use Rattle.ob_seq.specs.declared.contents.take.Front.{Front}
 use Rattle.ob_seq.proofs.Inside.LetGo.{a_cut, none_left}
-use Rattle.ob_connection.specs.Becoming.{IsCut}
+use Rattle.ob_connection.specs.Inside.{IsCut}
 use Rattle.ob_connection.specs.Obeying.{removed_reply, settled_if}
 use Rattle.ob_connection.specs.declared.replies.Removed.{Removed}
 use Rattle.ob_connection.proofs.Kept.{closed_of_times}

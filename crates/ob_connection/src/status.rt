@@ -1,5 +1,5 @@
 ghost use Rattle.std.specs.Prelude.{◌≡◌};
-ghost use Rattle.ob_connection.specs.Looks.{waiting_status};
+ghost use Rattle.ob_connection.specs.Connected.{waiting_status};
 
 use ob_types::{Outcome, PromiseState};
 

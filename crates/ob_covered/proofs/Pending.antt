@@ -15,7 +15,7 @@ use Rattle.ob_seq.proofs.Rows.EachRow.{effect_turns, total_turns}
 use Rattle.ob_connection.specs.Calls.{Call}
 use Rattle.ob_connection.specs.Connected.{Connected, StandsForSome}
 use Rattle.ob_connection.specs.Obeying.{GivesUp, as_result, Obeys, taken_reply}
-use Rattle.ob_connection.specs.Looks.{Shows}
+use Rattle.ob_connection.specs.Connected.{Shows}
 use Rattle.ob_connection.specs.Sending.{Sends, SendsInTurns}
 use Rattle.ob_connection.specs.declared.connection.sending.SendFault.{SendFault}
 use Rattle.ob_connection.specs.declared.connection.sending.Sent.{Sent}

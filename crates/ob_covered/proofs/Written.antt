@@ -13,7 +13,7 @@ use Rattle.ob_seq.specs.Rows.{new_row, counted_size}
 use Rattle.ob_seq.specs.Unsent.{room_for_one_more}
 use Rattle.ob_budget.specs.declared.pressure.Pressure.{Pressure}
 use Rattle.ob_connection.specs.Connected.{Connected, StandsForSome, room_in}
-use Rattle.ob_connection.specs.Looks.{Shows}
+use Rattle.ob_connection.specs.Connected.{Shows}
 use Rattle.ob_connection.specs.Obeying.{Obeys, written_reply}
 use Rattle.ob_connection.specs.declared.look.Look.{Look}
 use Rattle.ob_connection.specs.declared.replies.Written.{Written}

@@ -6,7 +6,7 @@ use Rattle.ob_types.specs.declared.promise.PromiseState.{PromiseState}
 use Rattle.ob_types.specs.declared.refusal.Refusal.{Refusal}
 use Rattle.ob_types.specs.declared.reply.Reply.{Reply}
 use Rattle.ob_connection.specs.Connected.{Connected, StandsFor as ConnectionStandsFor, Gives as ConnectionGives}
-use Rattle.ob_connection.specs.Looks.{waiting_count_after}
+use Rattle.ob_connection.specs.Connected.{waiting_count_after}
 use Rattle.ob_connection.specs.Obeying.{Obeys}
 use Rattle.ob_lifecycle.specs.Counts.{most_told, none, tally_after, tally_by, written_of, Counts}
 use Rattle.ob_lifecycle.specs.Events.{Event, Accepted, Refused, commands_in, happens, asks_for_the_end, is_finishing}

@@ -10,7 +10,7 @@ use Rattle.ob_seq.specs.Effect.{closed_row, effect, rows_after}
 use Rattle.ob_seq.specs.Rows.{Row, Settings, line, unflushed}
 use Rattle.ob_connection.specs.Calls.{Call}
 use Rattle.ob_connection.specs.Connected.{Connected, Shrinks, StandsFor as ConnectionStandsFor, Gives as ConnectionGives}
-use Rattle.ob_connection.specs.Looks.{waiting_count_after}
+use Rattle.ob_connection.specs.Connected.{waiting_count_after}
 use Rattle.ob_connection.specs.Obeying.{GivesUp, as_result, taken_reply}
 use Rattle.ob_connection.specs.Sending.{Sends, SendsInTurns}
 use Rattle.ob_connection.specs.declared.connection.sending.SendFault.{SendFault}

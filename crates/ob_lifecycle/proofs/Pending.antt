@@ -15,7 +15,7 @@ use Rattle.ob_seq.specs.Looks.{flushed_after}
 use Rattle.ob_seq.specs.Rows.{Row, Settings, is_cancelled as is_taken_back, is_flushed, is_unflushed, line, new_row, unflushed, unread_part}
 use Rattle.ob_seq.proofs.Rows.Order.{each_append}
 use Rattle.ob_connection.specs.Connected.{Connected, Gives as ConnectionGives}
-use Rattle.ob_connection.specs.Looks.{waiting_count_after}
+use Rattle.ob_connection.specs.Connected.{waiting_count_after}
 use Rattle.ob_connection.specs.Obeying.{GivesUp, Obeys, flushed_reply}
 use Rattle.ob_connection.specs.declared.replies.Flushed.{Flushed}
 use Rattle.ob_connection.specs.declared.replies.Taken.{Taken}

@@ -11,7 +11,7 @@ use Rattle.ob_seq.specs.Answer.{unless_refused, first_refusal_within}
 use Rattle.ob_seq.specs.State.{is_closed}
 use Rattle.ob_seq.specs.Unsent.{room_for_one_more}
 use Rattle.ob_connection.specs.Connected.{Connected, StandsFor as ConnectionStandsFor, connection_limit, room_in}
-use Rattle.ob_connection.specs.Looks.{Refuses, waiting_count_after}
+use Rattle.ob_connection.specs.Connected.{Refuses, waiting_count_after}
 use Rattle.ob_connection.specs.Obeying.{Accepts, Obeys, written_reply}
 use Rattle.ob_connection.specs.declared.replies.Written.{Written}
 use Rattle.ob_lifecycle.specs.Events.{Event, Accepted, Refused as WasRefused, commands_in, is_finishing}
@@ -22,7 +22,7 @@ use Rattle.ob_lifecycle.specs.declared.fault.WriteFault.{WriteFault}
 use Rattle.ob_lifecycle.specs.declared.fault.WriteFault.TheVariants.{Refused, Finishing, Full}
 use Rattle.std.proofs.lemmas.Bool.Decides.{nat_tests}
 use Rattle.ob_types.specs.declared.command.Command.{Command}
-use Rattle.ob_connection.specs.Looks.{Shows}
+use Rattle.ob_connection.specs.Connected.{Shows}
 use Rattle.ob_connection.specs.declared.look.Look.{Look}
 use Rattle.ob_lifecycle.specs.Counts.{is_untold, most_told, pending_after, tally_by, Counts}
 use Rattle.ob_lifecycle.specs.declared.count.Count.{Count}

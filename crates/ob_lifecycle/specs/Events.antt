@@ -8,7 +8,7 @@ use Rattle.ob_types.specs.declared.command.Command.TheVariants.{RemoveBytes, Fai
 use Rattle.ob_types.specs.declared.promise.Cause.{Cause}
 use Rattle.ob_types.specs.declared.refusal.Refusal.{Refusal}
 use Rattle.ob_seq.specs.Rows.{Settings}
-use Rattle.ob_connection.specs.Looks.{waiting_count_after}
+use Rattle.ob_connection.specs.Connected.{waiting_count_after}
 use Rattle.ob_connection.specs.declared.connection.sending.SendFault.{SendFault}
 use Rattle.ob_connection.specs.declared.replies.Taken.{Taken}
 use Rattle.ob_lifecycle.specs.declared.fault.WriteFault.{WriteFault}

@@ -15,7 +15,7 @@ use Rattle.ob_seq.specs.Answer.{is_too_much_within, reply_of, unless_refused}
 use Rattle.ob_seq.specs.Effect.{rows_after}
 use Rattle.ob_seq.specs.State.{is_closed}
 use Rattle.ob_connection.specs.Connected.{Connected, StandsForSome, connection_limit}
-use Rattle.ob_connection.specs.Looks.{Refuses}
+use Rattle.ob_connection.specs.Connected.{Refuses}
 use Rattle.ob_connection.specs.Obeying.{Accepts, Obeys}
 use Rattle.ob_covered.specs.Cover.{CoverValue}
 use Rattle.ob_shared_connection.specs.Covers.{Adds, CountsAs, HoldsFor, Passes, PassesRoom, held_by}

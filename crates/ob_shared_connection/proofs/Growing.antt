@@ -12,7 +12,7 @@ use Rattle.ob_seq.specs.Effect.{effect, rows_after}
 use Rattle.ob_seq.specs.Rows.{Settings, counted_size, new_row}
 use Rattle.ob_seq.proofs.Rows.EachRow.{effect_turns, total_turns}
 use Rattle.ob_connection.specs.Connected.{Connected, StandsFor, StandsForSome}
-use Rattle.ob_connection.specs.Looks.{Shows}
+use Rattle.ob_connection.specs.Connected.{Shows}
 use Rattle.ob_connection.specs.declared.look.Look.{Look}
 use Rattle.ob_covered.specs.Budgeted.{pending}
 use Rattle.ob_covered.specs.Cover.{CoverValue}

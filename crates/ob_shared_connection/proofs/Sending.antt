@@ -15,7 +15,7 @@ use Rattle.ob_seq.specs.Rows.{Settings}
 use Rattle.ob_seq.specs.State.{closed_after, empty_after}
 use Rattle.ob_seq.proofs.Inside.Gathered.{length_of_concat}
 use Rattle.ob_connection.specs.Calls.{bytes_of, most_pieces}
-use Rattle.ob_connection.specs.Looks.{AreGathered}
+use Rattle.ob_connection.specs.Connected.{AreGathered}
 use Rattle.ob_connection.specs.Sending.{offered_after}
 use Rattle.ob_connection.specs.Connected.{Gives}
 use Rattle.ob_connection.specs.declared.connection.sending.Sent.{Sent}

@@ -15,7 +15,7 @@ use Rattle.ob_seq.specs.Effect.{bytes_in, pieces_within}
 use Rattle.ob_seq.specs.Rows.{Settings}
 use Rattle.ob_seq.proofs.Inside.Gathered.{all_bytes, length_of_concat}
 use Rattle.ob_connection.specs.Connected.{connection_accepts, connection_accepts_all}
-use Rattle.ob_connection.specs.Looks.{AreGathered}
+use Rattle.ob_connection.specs.Connected.{AreGathered}
 use Rattle.ob_connection.specs.Obeying.{promises_after, taken_reply, told_by}
 use Rattle.ob_connection.specs.declared.replies.Taken.{Taken}
 use Rattle.ob_shared_connection.specs.Calls.{IsLock, Makes, Taking, UnderLock}

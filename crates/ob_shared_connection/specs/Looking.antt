@@ -5,7 +5,7 @@ use Rattle.ob_types.specs.declared.refusal.Refusal.{Refusal}
 use Rattle.ob_types.specs.declared.refusal.Refusal.TheVariants.{NoMemory}
 use Rattle.ob_seq.specs.Looks.{gathered_after}
 use Rattle.ob_connection.specs.Connected.{Connected, StandsFor}
-use Rattle.ob_connection.specs.Looks.{AreGathered, Refuses}
+use Rattle.ob_connection.specs.Connected.{AreGathered, Refuses}
 use Rattle.ob_shared_connection.specs.Values.{Held}
 
 -- a look shows this of the connection, and nothing changes

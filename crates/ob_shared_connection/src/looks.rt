@@ -2,7 +2,7 @@
 ghost use Rattle.ob_types.specs.declared.command.Command.TheVariants as command;
 ghost use Rattle.ob_types.specs.declared.message.Message.TheVariants.{Block};
 ghost use Rattle.ob_seq.specs.State.{writable_after, empty_after, closed_after};
-ghost use Rattle.ob_connection.specs.Looks.{IsFrontPromise, Refuses, Shows, Tells};
+ghost use Rattle.ob_connection.specs.Connected.{IsFrontPromise, Refuses, Shows, Tells};
 ghost use Rattle.ob_connection.specs.Connected.{Gives};
 ghost use Rattle.ob_shared_connection.specs.Looking.{Gathers, RefusesFreely};
 ghost use Rattle.ob_shared_connection.specs.Leaving.{IsParting};

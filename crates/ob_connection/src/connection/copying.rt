@@ -7,7 +7,7 @@ ghost use Rattle.ob_types.specs.declared.message.Message.TheVariants.{Block};
 ghost use Rattle.ob_seq.specs.Unsent.{room_for_one_more};
 ghost use Rattle.ob_connection.specs.Connected.{room_in};
 ghost use Rattle.ob_connection.specs.Inside.{admission};
-ghost use Rattle.ob_connection.specs.Looks.{Refuses};
+ghost use Rattle.ob_connection.specs.Connected.{Refuses};
 ghost use Rattle.ob_connection.specs.Obeying.{Obeys, joined, written_reply};
 
 use crate::connection::Connection;

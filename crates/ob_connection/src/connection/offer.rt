@@ -4,7 +4,7 @@ ghost use Rattle.std.specs.Io.Slices.{io_slice_bytes};
 ghost use Rattle.std.specs.List.{concat};
 ghost use Rattle.std.specs.Prelude.{◌≡◌, ◌≤◌, length, take, map, min};
 ghost use Rattle.ob_connection.specs.Calls.{calls_with, had_no_room, most_pieces, with_more};
-ghost use Rattle.ob_connection.specs.Offering.{answer_of, bytes_taken, Offers};
+ghost use Rattle.ob_connection.specs.Inside.{answer_of, bytes_taken, Offers};
 
 use crate::connection::Connection;
 use crate::socket::{Socket, SocketFault};

@@ -2,7 +2,7 @@
 
 ghost use Rattle.std.specs.Prelude.{◌≡◌, false, IfOk, IfErr, OnErr};
 ghost use Rattle.ob_connection.specs.declared.connection.sending.SendFault.TheVariants.{Closed as IsClosed};
-ghost use Rattle.ob_connection.specs.Offering.{answer_of, bytes_taken};
+ghost use Rattle.ob_connection.specs.Inside.{answer_of, bytes_taken};
 ghost use Rattle.ob_connection.specs.Sending.{Asks, EndsSending, sent_or_fault, Sends, SendsInTurns};
 ghost use Rattle.ob_connection.specs.Connected.{TakesNoRoom};
 

@@ -5,7 +5,7 @@ ghost use Rattle.ob_types.specs.declared.command.Command.TheVariants.{Write};
 ghost use Rattle.ob_types.specs.declared.message.Message.TheVariants.{Block};
 ghost use Rattle.ob_seq.specs.State.{marks_after, writable_after, empty_after, closed_after};
 ghost use Rattle.ob_connection.specs.Connected.{room_in, Gives};
-ghost use Rattle.ob_connection.specs.Looks.{Refuses, Shows, Tells, unflushed_count_after, waiting_count_after};
+ghost use Rattle.ob_connection.specs.Connected.{Refuses, Shows, Tells, unflushed_count_after, waiting_count_after};
 
 use crate::connection::Connection;
 use crate::look::Look;

@@ -5,7 +5,7 @@ ghost use Rattle.ob_types.specs.Marks.{change_between};
 ghost use Rattle.ob_types.specs.declared.promise.Outcome.TheVariants.{Cancelled};
 ghost use Rattle.ob_seq.specs.Kept.{removal};
 ghost use Rattle.ob_seq.specs.Steps.Commands.{bytes_removed};
-ghost use Rattle.ob_connection.specs.Becoming.{Becomes, IsCut};
+ghost use Rattle.ob_connection.specs.Inside.{Becomes, IsCut};
 ghost use Rattle.ob_connection.specs.Obeying.{Obeys, removed_reply};
 ghost use Rattle.ob_connection.specs.Connected.{TakesNoRoom};
 

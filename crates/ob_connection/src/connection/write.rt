@@ -7,7 +7,7 @@ ghost use Rattle.ob_types.specs.declared.message.Message.TheVariants.{Block};
 ghost use Rattle.ob_seq.specs.Unsent.{room_for_one_more, spares};
 ghost use Rattle.ob_connection.specs.Connected.{room_in};
 ghost use Rattle.ob_connection.specs.Inside.{admission};
-ghost use Rattle.ob_connection.specs.Looks.{Refuses};
+ghost use Rattle.ob_connection.specs.Connected.{Refuses};
 ghost use Rattle.ob_connection.specs.Obeying.{Obeys, answer_of_write, written_reply};
 
 use crate::connection::Connection;

@@ -1,6 +1,6 @@
 use Rattle.ob_connection.proofs.Words.{◌≡◌, arith, refl, sym, ap, ◌∙◌, subst}
 use Rattle.ob_connection.specs.Calls.{answers_in}
-use Rattle.ob_connection.specs.Offering.{answer_of}
+use Rattle.ob_connection.specs.Inside.{answer_of}
 use Rattle.ob_connection.specs.Sending.{EndsWithin}
 use Rattle.ob_connection.specs.declared.ending.Ending.{Ending}
 use Rattle.ob_connection.specs.declared.ending.Ending.TheVariants.{Blocked, Broken}

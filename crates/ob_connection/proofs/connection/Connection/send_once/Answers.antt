@@ -6,7 +6,7 @@ use Rattle.ob_connection.specs.declared.connection.sending.SendFault.{SendFault}
 use Rattle.ob_connection.specs.declared.connection.sending.Sent.{Sent}
 use Rattle.ob_connection.specs.Obeying.{promises_after, taken_reply}
 use Rattle.ob_connection.specs.Calls.{most_pieces, with_more}
-use Rattle.ob_connection.specs.Offering.{offered}
+use Rattle.ob_connection.specs.Inside.{offered}
 use Rattle.ob_connection.specs.Sending.{bytes_or_fault}
 use Rattle.ob_connection.proofs.Sending.{asks_by, not_refused, offered_are_gathered, offered_within}
 use Rattle.ob_connection.proofs.connection.Connection.send_once.Goals as goal

@@ -3,7 +3,7 @@ use Rattle.std.specs.List.{concat}
 use Rattle.std.proofs.lemmas.List.{length-drop}
 use Rattle.ob_seq.proofs.Inside.Gathered.{length_of_concat}
 use Rattle.ob_connection.specs.Calls.{calls_with, most_pieces, with_more}
-use Rattle.ob_connection.specs.Offering.{answer_of, IsLeft, offered, run_of}
+use Rattle.ob_connection.specs.Inside.{answer_of, IsLeft, offered, run_of}
 use Rattle.ob_connection.proofs.Answered.{answers_are, due_at_once, taken_by}
 use Rattle.ob_connection.proofs.TurnOffers.{first_offer, offered_first, offered_none, offered_some}
 use Rattle.ob_connection.proofs.Turns.{run_mid, some_in_line}

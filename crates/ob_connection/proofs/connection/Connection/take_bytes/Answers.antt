@@ -1,8 +1,8 @@
 use Rattle.ob_connection.proofs.Words.{[], ◌≡◌, ap, ◌∙◌, held, whole, Connected, subst}
 use Rattle.ob_seq.specs.Steps.Commands.{bytes_removed, whole_cut}
 use Rattle.ob_seq.specs.declared.contents.cut.Cut.{Cut}
-use Rattle.ob_connection.specs.Becoming.{IsCut}
-use Rattle.ob_connection.specs.Offering.{run_of}
+use Rattle.ob_connection.specs.Inside.{IsCut}
+use Rattle.ob_connection.specs.Inside.{run_of}
 use Rattle.ob_seq.proofs.Inside.LetGo.{a_cut}
 use Rattle.ob_connection.proofs.connection.Connection.take_bytes.Goals as goal
 

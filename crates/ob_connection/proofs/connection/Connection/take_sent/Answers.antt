@@ -6,7 +6,7 @@ use Rattle.ob_types.specs.declared.promise.Outcome.TheVariants.{Success}
 use Rattle.ob_seq.specs.Looks.{blocks_left}
 use Rattle.ob_seq.specs.Steps.Commands.{bytes_removed, bytes_reply, bytes_step, whole_cut}
 use Rattle.ob_seq.specs.declared.contents.cut.Cut.{Cut}
-use Rattle.ob_connection.specs.Becoming.{IsCut}
+use Rattle.ob_connection.specs.Inside.{IsCut}
 use Rattle.ob_connection.specs.Obeying.{taken_reply}
 use Rattle.ob_connection.proofs.Kept.{same_change}
 use Rattle.ob_connection.proofs.Making.{closed, refused, taken}
