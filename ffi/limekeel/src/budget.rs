@@ -513,18 +513,20 @@ impl Waiters {
     }
 
     /// What a write returns. Most are accepted and turn nothing: one comparison tells that.
-    #[inline]
+    #[inline(always)]
     pub(crate) fn written(&self, told: sys::PressedWritten) -> Pressed<Result<Written, Refusal>> {
-        if told.written.status | told.pressure == 0 {
-            return Pressed { answer: Ok(Written::accepted(told.written)), pressure: None };
+        let sys::PressedWritten { written: sys::Written { status, change, id }, pressure } = told;
+        if status | pressure == 0 {
+            return Pressed { answer: Ok(Written { id, change: Change::of(change) }), pressure: None };
         }
-        self.written_by(told.written, told.pressure)
+        self.written_by(status, change, id, pressure)
     }
 
+    // Number by number, so that the others need not be in memory.
     #[cold]
     #[inline(never)]
-    fn written_by(&self, written: sys::Written, pressure: u32) -> Pressed<Result<Written, Refusal>> {
-        Pressed { answer: Written::of(written), pressure: self.turned(pressure) }
+    fn written_by(&self, status: u32, change: u32, id: u64, pressure: u32) -> Pressed<Result<Written, Refusal>> {
+        Pressed { answer: Written::of(sys::Written { status, change, id }), pressure: self.turned(pressure) }
     }
 }
 

@@ -68,7 +68,7 @@ impl<T> Owned<T> {
 impl Lends<'_> {
     /// Writes a copy of few bytes, made where messages are made in place: so it needs no count of owners, which the archive would
     /// keep for it. If there is no memory for that, or they are many, it does nothing, and the archive is to be asked.
-    #[inline]
+    #[inline(always)]
     pub(crate) fn write_copy(self, bytes: &[u8]) -> Option<sys::PressedWritten> {
         if bytes.len() > LONGEST {
             return None;
@@ -166,7 +166,7 @@ impl<'a> Made<'a> {
     }
 
     /// Writes it.
-    #[inline]
+    #[inline(always)]
     pub(crate) fn write(mut self) -> sys::PressedWritten {
         let bytes = self.lends.lent.made_from(self.start);
         let (at, length) = (bytes.as_ptr(), bytes.len());
