@@ -1,8 +1,12 @@
 //! Messages that are written as bytes.
 
-ghost use Rattle.std.specs.Prelude.{◌≡◌, IfErr, IsTrue};
+ghost use Rattle.std.specs.Prelude.{◌≡◌, IfErr, IsTrue, OnOk};
 ghost use Rattle.ob_types.specs.PendingSize.{counted_bytes};
+ghost use Rattle.ob_types.specs.declared.command.Command.TheVariants.{Write};
 ghost use Rattle.ob_types.specs.declared.message.Message.TheVariants.{Block};
+ghost use Rattle.ob_seq.specs.Unsent.{room_for_one_more};
+ghost use Rattle.ob_connection.specs.Connected.{room_in};
+ghost use Rattle.ob_connection.specs.Obeying.{Obeys, written_reply};
 ghost use Rattle.ob_covered.specs.Budgeted.{OverBudgetAlone, WritesWithin};
 ghost use Rattle.ob_covered.specs.Inside.{Covers, HoldsBeside, let_through};
 
@@ -46,6 +50,25 @@ impl Budgeted {
             return self.share_beyond(block);
         }
         let answer = self.connection.write_shared(block);
+        let _look = self.connection.look();
+        Told {
+            answer: let_through(answer),
+            pressure: None,
+        }
+    }
+
+    /// Writes bytes that are there for good, where they lie: no byte is copied, and no owner is counted. It is refused as
+    /// `write_copy` is.
+    #[inline(always)]
+    pub fn write_static(&mut self, bytes: &'static [u8]) -> Told<Result<Written, WriteFault>>
+        ensures writes { WritesWithin (λ why. why) (Block bytes.now) self.old result self.new }
+        ensures last { IfErr result.answer (OverBudgetAlone self.old.connection (Block bytes.now)) }
+    {
+        self.connection.stands_for_some_commands();
+        if !holds_block(&self.connection, &self.cover, bytes) {
+            return self.lend_beyond(bytes);
+        }
+        let answer = put_static(&mut self.connection, bytes);
         let _look = self.connection.look();
         Told {
             answer: let_through(answer),
@@ -104,6 +127,17 @@ impl Budgeted {
         }
     }
 
+    /// Lends such bytes.
+    // the message is made here, so that the other way keeps none in memory for it
+    #[cold]
+    #[inline(never)]
+    fn lend_beyond(&mut self, bytes: &'static [u8]) -> Told<Result<Written, WriteFault>>
+        ensures writes { WritesWithin (λ why. why) (Block bytes.now) self.old result self.new }
+        ensures last { IfErr result.answer (OverBudgetAlone self.old.connection (Block bytes.now)) }
+    {
+        self.share_beyond(&Bytes::from_static(bytes))
+    }
+
     /// Lets the seat hold a block beside what is pending, if the connection would take it.
     fn cover_block(&mut self, block: &[u8]) -> Result<Option<Pressure>, WriteFault>
         ensures { Covers (Block block.now) self.old result self.new }
@@ -119,6 +153,15 @@ impl Budgeted {
             Err(fault) => Err(WriteFault::OverBudget(fault)),
         }
     }
+}
+
+/// Writes bytes that are there for good.
+#[inline(always)]
+fn put_static(connection: &mut Connection, bytes: &'static [u8]) -> Result<Written, Refusal>
+    ensures obeys { Obeys connection.old (Write (Block bytes.now)) written_reply result connection.new }
+    ensures room { OnOk result (room_in connection.new ≡ room_for_one_more connection.old.unsent) }
+{
+    connection.write_shared(&Bytes::from_static(bytes))
 }
 
 /// Whether the seat holds this block beside what is pending.
