@@ -1,5 +1,6 @@
 pub mod Beginnings
 pub mod Calls
+pub mod Chunks
 pub mod Counts
 pub mod First
 pub mod Histories
