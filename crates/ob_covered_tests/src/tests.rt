@@ -242,10 +242,12 @@ fn covers_of_one_budget_see_one_total(rt: HostRuntime) -> Result<(), Fail> {
         (written.answer.is_ok(), written.pressure),
         (true, Some(Pressure::Began))
     );
+    let lent = connection.write_static(&[0; 4]);
+    assert_eq!(rt; (lent.answer.is_ok(), lent.pressure), (true, None));
     let looks = [first.look(), other.look(), connection.look_at_budget()];
     assert_eq!(rt;
         looks.map(|look| (look.total, look.is_pressed)),
-        [(900, true); 3]
+        [(1000, true); 3]
     );
     let none = Estimate {
         overhead: 0,
