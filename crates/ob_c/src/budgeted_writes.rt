@@ -12,7 +12,6 @@ use crate::block::Block;
 use crate::budgeted::Budgeted;
 use crate::numbers::{NO_BLOCK, NOT_OPEN};
 use crate::pressed::PressedWritten;
-use crate::writes::lent;
 use bytes::Bytes;
 use ob_connection::Written;
 use ob_covered::{Told, WriteFault};
@@ -59,7 +58,7 @@ pub extern "C" fn limekeel_budgeted_write_lent_bytes(
 ) -> PressedWritten
     ensures { WritesFor budgeted.old.value (AsBlock bytes.now) result budgeted.new.value }
 {
-    PressedWritten::of(budgeted.write(|connection| write(connection, lent(bytes))))
+    PressedWritten::of(budgeted.write(|connection| write_static(connection, bytes)))
 }
 
 /// Writes a region of `length` bytes, which the transport sends by itself.
@@ -104,6 +103,17 @@ fn write_shared(
     ensures { WritesWithin (λ why. why) (AsBlock bytes.now) connection.old result connection.new }
 {
     connection.write_shared(bytes)
+}
+
+/// Writes these bytes where they lie.
+#[inline(always)]
+fn write_static(
+    connection: &mut ob_covered::Budgeted,
+    bytes: &'static [u8],
+) -> Told<Result<Written, WriteFault>>
+    ensures { WritesWithin (λ why. why) (AsBlock bytes.now) connection.old result connection.new }
+{
+    connection.write_static(bytes)
 }
 
 /// Writes a message, of which a refusal tells the reason alone: the caller of C has what it is made of.
