@@ -7,12 +7,11 @@ use Rattle.ob_connection.proofs.Words.{ℕ, Unsent, Becomes, accepted_writes, mo
 use Rattle.std.proofs.lemmas.List.{length-map}
 use Rattle.ob_seq.specs.Effect.{rows_after}
 use Rattle.ob_seq.proofs.Rows.Limits.{rows_within}
-use Rattle.ob_connection.specs.Connected.{room_in, roomed}
+use Rattle.ob_connection.specs.Connected.{room_in, roomed, Refuses}
 use Rattle.ob_connection.proofs.Kept.{ids_are, some_past}
 use Rattle.ob_seq.specs.Answer.{are_accepted_within}
 use Rattle.ob_seq.specs.Steps.Within.{StepsWithin}
 use Rattle.ob_connection.specs.Inside.{IsFirstRefusal}
-use Rattle.ob_connection.specs.Connected.{Refuses}
 use Rattle.ob_connection.specs.Obeying.{Accepts}
 use Rattle.ob_connection.proofs.Making.{made_within}
 use Rattle.ob_seq.proofs.Simulating.Simulated.{answer_is, goes_on, simulated}

@@ -26,8 +26,7 @@ use Rattle.ob_seq.proofs.Inside.Gathered.{gathered_first, length_of_concat, more
 use Rattle.ob_seq.proofs.Simulating.BytesRemoved.{run_is}
 use Rattle.ob_connection.specs.Connected.{answer_of_connection}
 use Rattle.ob_connection.specs.Calls.{Call, calls_with, had_no_room, most_pieces, with_more}
-use Rattle.ob_connection.specs.Inside.{removed}
-use Rattle.ob_connection.specs.Inside.{answer_of, EndsAt, IsLeft, offered, Offers, run_of}
+use Rattle.ob_connection.specs.Inside.{removed, answer_of, EndsAt, IsLeft, offered, Offers, run_of}
 use Rattle.ob_connection.proofs.Turns.{not_too_many}
 use Rattle.ob_seq.proofs.Inside.Looked.{gathered_is}
 use Rattle.ob_seq.proofs.Simulating.Simulated.{goes_on, simulated}

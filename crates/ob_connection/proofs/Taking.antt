@@ -1,6 +1,6 @@
 -- What is taken away, and that what is left still stands for some commands.
 use Rattle.ob_connection.proofs.Words.{◌≡◌, ℕ, ◌+◌, ◌++◌, ◌∷◌, Bool, true, false, List, [], Option, Some, None, Result, Ok, Err, OnErr}
-use Rattle.ob_connection.proofs.Words.{refl, sym, ap, ◌∙◌, subst, arith, append-nil, length-append, length, map, if◌then◌else◌}
+use Rattle.ob_connection.proofs.Words.{refl, sym, ap, ◌∙◌, subst, arith, append-nil, length-append, length, map, drop, ◌≤◌, if◌then◌else◌}
 use Rattle.ob_connection.proofs.Words.{Becomes, Connected, Makes, Moves, Outcome, Pending, Refusal, StandsForSome, Steps, Unsent}
 use Rattle.ob_connection.proofs.Words.{held, told_by, whole, waiting_count}
 use Rattle.std.specs.Bool.{then_some}
@@ -12,9 +12,11 @@ use Rattle.ob_types.specs.declared.promise.PromiseId.{PromiseId}
 use Rattle.ob_types.specs.declared.reply.Answer.TheVariants.{Yes}
 use Rattle.ob_seq.specs.Kept.{removal}
 use Rattle.ob_seq.specs.Steps.Commands.{bytes_removed, closed_pending, closing_step, failing_step, front_skipped, front_taken, removal_step}
+use Rattle.ob_seq.specs.Steps.Commands.{cut_of, first_length}
+use Rattle.ob_seq.specs.Looks.{blocks_left}
 use Rattle.ob_seq.specs.Steps.Step.{times}
 use Rattle.ob_seq.specs.Steps.Within.{TakesCut, TakesFirst, front_endings, front_reply}
-use Rattle.ob_seq.specs.Unsent.{ended, pending_entry}
+use Rattle.ob_seq.specs.Unsent.{ended, pending_entries, pending_entry}
 use Rattle.ob_seq.specs.declared.contents.cut.Cut.{Cut}
 use Rattle.ob_seq.specs.declared.contents.take.Front.{Front}
 use Rattle.ob_seq.proofs.Inside.LetGo.{a_cut, none_left}
@@ -91,6 +93,13 @@ pub removes : (outcome : Outcome) → ¬ (outcome ≡ Cancelled) → {old new : 
 removes Success other result makes same = removal_steps Success result makes same
 removes (Failed cause) other result makes same = removal_steps (Failed cause) result makes same
 removes Cancelled other result makes same = absurd (other refl)
+
+-- a removal of as many bytes ends where it is found to end
+pub cut_found : {inside now : Connected} → inside ≡ now → (n : ℕ) {cut : Cut} →
+    Some cut ≡ cut_of n (blocks_left (pending_entries inside.unsent.line)) → cut.whole ≤ length inside.unsent.line →
+    cut.rest ≤ first_length (drop cut.whole (pending_entries inside.unsent.line)) → IsCut now.unsent cut
+cut_found view n {cut} found whole rest =
+    subst (λ (one : Connected). IsCut one.unsent cut) view (record { bytes = n; found = found; whole = whole; rest = rest })
 
 skipped_closed : (n : ℕ) (now : Pending) → (front_skipped n now).closed ≡ now.closed
 skipped_closed n now = grind arith

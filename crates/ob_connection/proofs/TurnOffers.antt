@@ -10,9 +10,8 @@ use Rattle.ob_seq.specs.Looks.{blocks_left, first_blocks, with_bytes}
 use Rattle.ob_seq.specs.Effect.{bytes_in, pieces_within}
 use Rattle.ob_seq.specs.Steps.Commands.{front_skipped}
 use Rattle.ob_seq.proofs.Inside.Gathered.{all_bytes, gathered_first, length_of_concat}
-use Rattle.ob_connection.specs.Inside.{removed}
+use Rattle.ob_connection.specs.Inside.{removed, IsLeft, offered, run_of}
 use Rattle.ob_connection.specs.Calls.{most_pieces}
-use Rattle.ob_connection.specs.Inside.{IsLeft, offered, run_of}
 use Rattle.ob_connection.proofs.Turns.{along_front, behind_is, in_turns, left_is, removed_behind, removed_in, removed_none, within_both}
 
 -- a removal of nothing leaves the same blocks that hold a byte: it takes the empty ones in front away

@@ -22,8 +22,7 @@ use Rattle.ob_seq.proofs.Inside.Blocks.{few_entries, left_from_block, left_from_
 use Rattle.ob_seq.proofs.Inside.Gathered.{length_of_concat}
 use Rattle.ob_seq.proofs.Inside.Pieces.{fitting, within_is_fitting}
 use Rattle.ob_seq.proofs.Inside.Times.{times_first}
-use Rattle.ob_connection.specs.Inside.{cut_at, removed}
-use Rattle.ob_connection.specs.Inside.{run_of}
+use Rattle.ob_connection.specs.Inside.{cut_at, removed, run_of}
 use Rattle.ob_connection.proofs.Kept.{some_past}
 
 -- what is held once the front is sent

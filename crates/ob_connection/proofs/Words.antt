@@ -16,8 +16,7 @@ pub use Rattle.ob_seq.specs.Rows.{Settings}
 pub use Rattle.ob_seq.specs.Steps.Commands.{step_within}
 pub use Rattle.ob_seq.specs.Steps.Step.{Step, Makes, answer_by, held_by, first_of_step}
 pub use Rattle.ob_seq.specs.Unsent.{whole, Unsent, waiting_count}
-pub use Rattle.ob_connection.specs.Inside.{Past, held, Becomes, Steps, Moves}
+pub use Rattle.ob_connection.specs.Inside.{Past, held, Becomes, Steps, Moves, connected_of}
 pub use Rattle.ob_connection.specs.Connected.{Connected, accepted_writes, connection_limit, most_ids, StandsFor}
 pub use Rattle.ob_connection.specs.Connected.{StandsForSome, Gives}
-pub use Rattle.ob_connection.specs.Inside.{connected_of}
 pub use Rattle.ob_connection.specs.Obeying.{Answers, Follows, Obeys, commands_with, promises_after, told_by}

@@ -13,7 +13,6 @@ mod sending;
 mod state;
 mod take;
 mod turns;
-mod write;
 
 use crate::chunk::Chunks;
 pub use copying::length_of_parts;

@@ -5,8 +5,7 @@ ghost use Rattle.std.specs.Option.{option_copied};
 ghost use Rattle.std.specs.Prelude.{◌≡◌, ◌≤◌, [], List, length, map, take, drop, IfOk, IfErr, IsOk};
 ghost use Rattle.ob_types.specs.declared.command.Command.{Command};
 ghost use Rattle.ob_seq.specs.Looks.{gathered_after};
-ghost use Rattle.ob_connection.specs.Connected.{AreFlushed, AreGathered, IsCurrent, IsFrontPromise};
-ghost use Rattle.ob_connection.specs.Connected.{StandsFor};
+ghost use Rattle.ob_connection.specs.Connected.{AreFlushed, AreGathered, IsCurrent, IsFrontPromise, StandsFor};
 
 use crate::connection::Connection;
 use bytes::Bytes;

@@ -4,9 +4,8 @@ ghost use Rattle.std.specs.List.{concat};
 ghost use Rattle.std.specs.Prelude.{◌≡◌, ◌≤◌, ◌<◌, ◌+◌, length, take, false};
 ghost use Rattle.ob_seq.specs.Effect.{bytes_in};
 ghost use Rattle.ob_seq.specs.Steps.Commands.{whole_cut};
-ghost use Rattle.ob_connection.specs.Inside.{Becomes, removed};
+ghost use Rattle.ob_connection.specs.Inside.{Becomes, removed, answer_of, bytes_taken, EndsAt, IsLeft, run_of};
 ghost use Rattle.ob_connection.specs.Calls.{answers_in, with_more};
-ghost use Rattle.ob_connection.specs.Inside.{answer_of, bytes_taken, EndsAt, IsLeft, run_of};
 ghost use Rattle.ob_connection.specs.Sending.{AsksInTurns, EndsWithin};
 ghost use Rattle.ob_connection.specs.Connected.{TakesNoRoom};
 

@@ -6,8 +6,7 @@ use Rattle.ob_types.specs.declared.promise.Outcome.TheVariants.{Success}
 use Rattle.ob_seq.specs.Effect.{bytes_in}
 use Rattle.ob_seq.specs.State.{closed_after}
 use Rattle.ob_seq.specs.Steps.Commands.{bytes_step, whole_cut}
-use Rattle.ob_connection.specs.Inside.{removed}
-use Rattle.ob_connection.specs.Inside.{IsLeft, run_of}
+use Rattle.ob_connection.specs.Inside.{removed, IsLeft, run_of}
 use Rattle.ob_connection.specs.Obeying.{taken_reply}
 use Rattle.ob_connection.specs.Calls.{with_more}
 use Rattle.ob_connection.specs.Sending.{AsksInTurns, IsDue}

@@ -3,9 +3,8 @@ use Rattle.std.specs.List.{concat}
 use Rattle.std.specs.Prelude.{max}
 use Rattle.ob_seq.specs.Effect.{bytes_in}
 use Rattle.ob_seq.specs.Steps.Commands.{whole_cut}
-use Rattle.ob_connection.specs.Inside.{removed}
+use Rattle.ob_connection.specs.Inside.{removed, EndsAt, IsLeft, run_of}
 use Rattle.ob_connection.specs.Connected.{TakesNoRoom}
-use Rattle.ob_connection.specs.Inside.{EndsAt, IsLeft, run_of}
 use Rattle.ob_connection.specs.Calls.{with_more}
 use Rattle.ob_connection.specs.Sending.{AsksInTurns}
 use Rattle.ob_connection.proofs.connection.Connection.send_until_blocked.Given as goal

@@ -1,19 +1,14 @@
-use Rattle.ob_connection.proofs.Words.{[], ◌≡◌, ap, ◌∙◌, held, whole, Connected, subst}
+use Rattle.ob_connection.proofs.Words.{[], ◌≡◌, ap, ◌∙◌, held, whole, Connected}
 use Rattle.ob_seq.specs.Steps.Commands.{bytes_removed, whole_cut}
 use Rattle.ob_seq.specs.declared.contents.cut.Cut.{Cut}
-use Rattle.ob_connection.specs.Inside.{IsCut}
 use Rattle.ob_connection.specs.Inside.{run_of}
 use Rattle.ob_seq.proofs.Inside.LetGo.{a_cut}
+use Rattle.ob_connection.proofs.Taking.{cut_found}
 use Rattle.ob_connection.proofs.connection.Connection.take_bytes.Goals as goal
 
 pub take_cut-requires-clause-found : goal.take_cut-requires-clause-found
 take_cut-requires-clause-found c =
-    subst (λ (one : Connected). IsCut one.unsent c.in-Some.cut) c.self.view_is (record {
-      bytes = c.args.n;
-      found = c.in-Some.ensures.value;
-      whole = c.in-Some.ensures.within;
-      rest = c.in-Some.ensures.rest;
-    })
+    let found = c.in-Some.ensures in cut_found c.self.view_is c.args.n found.value found.within found.rest
 
 pub returns-clause-becomes : goal.returns-clause-becomes
 returns-clause-becomes c past =

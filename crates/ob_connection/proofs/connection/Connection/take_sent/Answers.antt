@@ -6,13 +6,13 @@ use Rattle.ob_types.specs.declared.promise.Outcome.TheVariants.{Success}
 use Rattle.ob_seq.specs.Looks.{blocks_left}
 use Rattle.ob_seq.specs.Steps.Commands.{bytes_removed, bytes_reply, bytes_step, whole_cut}
 use Rattle.ob_seq.specs.declared.contents.cut.Cut.{Cut}
-use Rattle.ob_connection.specs.Inside.{IsCut}
 use Rattle.ob_connection.specs.Obeying.{taken_reply}
 use Rattle.ob_connection.proofs.Kept.{same_change}
 use Rattle.ob_connection.proofs.Making.{closed, refused, taken}
 use Rattle.ob_connection.proofs.Obeyed.{obeys}
 use Rattle.ob_seq.proofs.Inside.LetGo.{a_cut, no_cut}
 use Rattle.ob_connection.proofs.Settling.{line_replied}
+use Rattle.ob_connection.proofs.Taking.{cut_found}
 use Rattle.ob_connection.proofs.connection.Connection.take_sent.Goals as goal
 
 pub returns-in_err-ask_open-clause-obeys : goal.returns-in_err-ask_open-clause-obeys
@@ -28,12 +28,7 @@ returns-in_default-clause-obeys c =
 
 pub take_cut-requires-clause-found : goal.take_cut-requires-clause-found
 take_cut-requires-clause-found c =
-    subst (λ (one : Connected). IsCut one.unsent c.in-Some.cut) c.self.view_is (record {
-      bytes = c.args.n;
-      found = c.in-Some.ensures.value;
-      whole = c.in-Some.ensures.within;
-      rest = c.in-Some.ensures.rest;
-    })
+    let found = c.in-Some.ensures in cut_found c.self.view_is c.args.n found.value found.within found.rest
 
 pub returns-clause-obeys : goal.returns-clause-obeys
 returns-clause-obeys c =
