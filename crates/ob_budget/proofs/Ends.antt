@@ -6,11 +6,9 @@ use Rattle.std.specs.List.{All, sum_by}
 use Rattle.std.proofs.lemmas.List.Sums.{sum_by-cons}
 use Rattle.std.proofs.lemmas.List.Elements.{All-head, All-tail, All-weaker}
 use Rattle.atomic_table.specs.declared.shared.Seat.{Seat as TableSeat}
-use Rattle.ob_budget.specs.Account.{most_seats}
+use Rattle.ob_budget.specs.Account.{most_seats, is_pressed, total_of, standing}
 use Rattle.ob_budget.specs.Bounds.{BoundsValue}
-use Rattle.ob_budget.specs.Inside.{IsEnd}
-use Rattle.ob_budget.specs.Ruled.{IsIdle}
-use Rattle.ob_budget.specs.Word.{is_pressed, total_of, standing}
+use Rattle.ob_budget.specs.Ruled.{IsEnd, IsIdle}
 use Rattle.ob_budget.specs.declared.account.Account.{Account}
 use Rattle.ob_budget.proofs.Moves.{held_of, seats_of, began_of, ended_of}
 use Rattle.ob_budget.proofs.Sums.{one-le-sum}

@@ -8,11 +8,10 @@ use Rattle.std.proofs.lemmas.List.Sums.{sum_by_push}
 use prog.Atomic.{either}
 use Rattle.atomic_table.specs.Table.{State, Act, keeps, Valid, stepped, carried_after, step, Allows, Enters}
 use Rattle.atomic_table.proofs.Lists.{exchanged}
-use Rattle.ob_budget.specs.Account.{MarksStand, MayFind, most_seats, after_read, after_loss, after_move}
+use Rattle.ob_budget.specs.Account.{MarksStand, MayFind, most_seats, after_read, after_loss, after_move, is_pressed}
+use Rattle.ob_budget.specs.Account.{total_of, standing}
 use Rattle.ob_budget.specs.Bounds.{BoundsValue}
-use Rattle.ob_budget.specs.Ruled.{IsIdle, Keeps, Ruled}
-use Rattle.ob_budget.specs.Told.{Knows, ToldRead, ToldMove, ToldGlance, MayMove, glanced}
-use Rattle.ob_budget.specs.Word.{is_pressed, total_of, standing}
+use Rattle.ob_budget.specs.Ruled.{IsIdle, Keeps, Ruled, Knows, ToldRead, ToldMove, ToldGlance, MayMove, glanced}
 use Rattle.ob_budget.specs.declared.account.Account.{Account}
 use Rattle.ob_budget.proofs.Sums.{of-one, All-one, sum-set, one-le-sum}
 use Rattle.ob_budget.proofs.Words.{turned}

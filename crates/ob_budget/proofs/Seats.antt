@@ -4,7 +4,7 @@ use Rattle.std.proofs.lemmas.List.Elements.{All-set, All-append}
 use Rattle.std.proofs.lemmas.List.Sums.{sum_by_push}
 use Rattle.atomic_table.specs.Table.{Splits, Joins}
 use Rattle.ob_budget.specs.Bounds.{BoundsValue}
-use Rattle.ob_budget.specs.Cut.{kept_account, given_account, joined_account, spent_account}
+use Rattle.ob_budget.specs.Account.{kept_account, given_account, joined_account, spent_account}
 use Rattle.ob_budget.specs.Ruled.{IsIdle, Ruled}
 use Rattle.ob_budget.specs.declared.account.Account.{Account}
 use Rattle.ob_budget.proofs.Moves.{held_of, seats_of, began_of, ended_of, knows-bounds}

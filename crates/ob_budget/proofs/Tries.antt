@@ -1,11 +1,10 @@
 -- Exchanges of one seat, one after another, until one is won.
 use Rattle.std.proofs.Common.{◌≡◌, ℕ, ◌+◌, ◌-◌, ◌≤◌, ◌<◌, Option, sym, refl, ap, ◌∙◌, subst, arith}
-use Rattle.ob_budget.specs.Account.{MarksStand, MayFind, HoldsAlike, after_move}
+use Rattle.ob_budget.specs.Account.{MarksStand, MayFind, HoldsAlike, after_move, SeatValue, is_pressed, total_of}
+use Rattle.ob_budget.specs.Account.{raised, lowered, change_between}
 use Rattle.ob_budget.specs.Bounds.{BoundsValue, AreBounds, greatest_room}
 use Rattle.ob_budget.specs.Calls.{HasTried, IsMoved, IsRaised, HasLooked, most_tries}
-use Rattle.ob_budget.specs.Told.{MayMove, HasLost, IsSound}
-use Rattle.ob_budget.specs.Values.{SeatValue}
-use Rattle.ob_budget.specs.Word.{is_pressed, total_of, raised, lowered, change_between}
+use Rattle.ob_budget.specs.Ruled.{MayMove, HasLost, IsSound}
 use Rattle.ob_budget.specs.declared.account.Account.{Account}
 use Rattle.ob_budget.specs.declared.pressure.Pressure.{Pressure}
 use Rattle.ob_budget.proofs.Words.{raised-marks, raised-total, lowered-marks, lowered-total}

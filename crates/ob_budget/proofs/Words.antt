@@ -1,9 +1,8 @@
 -- Totals, marks and turns of pressure of the one word.
 use Rattle.std.proofs.Common.{◌≡◌, ℕ, ◌+◌, ◌-◌, ◌≤◌, ◌<◌, Bool, true, false, nat_le, nat_lt, ◌||◌, ◌&&◌, refl, ◌∙◌, arith}
 use Rattle.std.proofs.lemmas.Bool.Decides.{nat_tests}
-use Rattle.ob_budget.specs.Account.{MarksStand}
+use Rattle.ob_budget.specs.Account.{MarksStand, is_pressed, total_of, word_of, raised, lowered, begins, standing}
 use Rattle.ob_budget.specs.Bounds.{BoundsValue, AreBounds, greatest_room}
-use Rattle.ob_budget.specs.Word.{is_pressed, total_of, word_of, raised, lowered, begins, standing}
 
 pub total-word : (total : ℕ) (pressed : Bool) → total ≤ greatest_room → total_of (word_of total pressed) ≡ total
 total-word total true fits = grind (arith, nat_tests)

@@ -1,9 +1,7 @@
 -- What the calls on a seat promise.
 use Rattle.std.specs.Prelude.{◌≡◌, ◌≤◌, ◌<◌, ◌+◌, ℕ, Option}
-use Rattle.ob_budget.specs.Account.{MayFind, HoldsAlike, after_move, after_read}
-use Rattle.ob_budget.specs.Cut.{joined_account}
-use Rattle.ob_budget.specs.Values.{SeatValue}
-use Rattle.ob_budget.specs.Word.{is_pressed, total_of, raised, change_between}
+use Rattle.ob_budget.specs.Account.{MayFind, HoldsAlike, after_move, after_read, joined_account, SeatValue, is_pressed}
+use Rattle.ob_budget.specs.Account.{total_of, raised, change_between}
 use Rattle.ob_budget.specs.declared.account.Account.{Account}
 use Rattle.ob_budget.specs.declared.fault.RaiseFault.{RaiseFault}
 use Rattle.ob_budget.specs.declared.fault.RaiseFault.TheVariants.{Full, Busy}

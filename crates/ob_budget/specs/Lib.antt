@@ -1,9 +1,4 @@
 pub mod Bounds
-pub mod Word
 pub mod Account
 pub mod Ruled
-pub mod Values
 pub mod Calls
-pub mod Told
-pub mod Cut
-pub mod Inside

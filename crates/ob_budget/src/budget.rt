@@ -1,8 +1,6 @@
 ghost use Rattle.std.specs.Prelude.{◌≡◌, IfOk};
-ghost use Rattle.ob_budget.specs.Account.{MayFind, first_account};
-ghost use Rattle.ob_budget.specs.Inside.{budget_of, IsBudget};
-ghost use Rattle.ob_budget.specs.Told.{glanced};
-ghost use Rattle.ob_budget.specs.Values.{BudgetValue};
+ghost use Rattle.ob_budget.specs.Account.{MayFind, first_account, BudgetValue};
+ghost use Rattle.ob_budget.specs.Ruled.{budget_of, IsBudget, glanced};
 
 mod end;
 mod seats;

@@ -1,7 +1,6 @@
 ghost use Rattle.std.specs.Prelude.{◌≡◌};
-ghost use Rattle.ob_budget.specs.Inside.{glance_of, IsGlance};
-ghost use Rattle.ob_budget.specs.Values.{GlanceValue};
-ghost use Rattle.ob_budget.specs.Word.{is_pressed, total_of};
+ghost use Rattle.ob_budget.specs.Ruled.{glance_of, IsGlance};
+ghost use Rattle.ob_budget.specs.Account.{GlanceValue, is_pressed, total_of};
 
 use crate::account::Account;
 use crate::pressure::Look;

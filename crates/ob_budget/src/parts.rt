@@ -21,7 +21,7 @@ pub struct Divide<S> {
 }
 
 impl<S: Part> Split<Account> for Divide<S> {
-    ghost use Rattle.ob_budget.specs.Cut.{kept_account, given_account};
+    ghost use Rattle.ob_budget.specs.Account.{kept_account, given_account};
 
     ghost left = { kept_account S.seats };
 
@@ -36,7 +36,7 @@ pub trait Spent {
 }
 
 impl Spent for Brand {
-    ghost use Rattle.ob_budget.specs.Cut.{no_account};
+    ghost use Rattle.ob_budget.specs.Account.{no_account};
 
     ghost account = { no_account };
 }
@@ -46,7 +46,7 @@ pub struct Merge<S> {
 }
 
 impl<S: Spent> Join<Account> for Merge<S> {
-    ghost use Rattle.ob_budget.specs.Cut.{joined_account, spent_account};
+    ghost use Rattle.ob_budget.specs.Account.{joined_account, spent_account};
 
     ghost both = { joined_account };
 

@@ -1,5 +1,5 @@
 //! What each kind of step tells the seat that makes it.
-ghost use Rattle.ob_budget.specs.Told.{ToldRead, ToldMove, ToldGlance};
+ghost use Rattle.ob_budget.specs.Ruled.{ToldRead, ToldMove, ToldGlance};
 
 use crate::account::Account;
 use atomic_table::Play;

@@ -1,8 +1,7 @@
 ghost use Rattle.std.specs.Prelude.{◌≡◌, ◌≤◌, []};
 ghost use Rattle.ob_budget.specs.Bounds.{AreBounds};
-ghost use Rattle.ob_budget.specs.Account.{first_account};
-ghost use Rattle.ob_budget.specs.Inside.{seat_of, IsSeat};
-ghost use Rattle.ob_budget.specs.Values.{SeatValue};
+ghost use Rattle.ob_budget.specs.Account.{first_account, SeatValue};
+ghost use Rattle.ob_budget.specs.Ruled.{seat_of, IsSeat};
 
 mod cut;
 mod finish;

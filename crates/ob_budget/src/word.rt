@@ -2,7 +2,7 @@
 
 ghost use Rattle.std.specs.Prelude.{◌≡◌, ◌≤◌, ◌+◌};
 ghost use Rattle.ob_budget.specs.Bounds.{greatest_room};
-ghost use Rattle.ob_budget.specs.Word.{is_pressed, total_of, word_of, raised, lowered, change_between};
+ghost use Rattle.ob_budget.specs.Account.{is_pressed, total_of, word_of, raised, lowered, change_between};
 
 use crate::bounds::Bounds;
 use crate::pressure::{Look, Pressure};

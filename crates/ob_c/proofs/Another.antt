@@ -1,7 +1,7 @@
 -- What a second handle that was kept is to the first.
 use Rattle.std.proofs.Common.{◌≡◌, ℕ, refl, subst, sym, Some, None, Result, Ok, Err}
 use Rattle.std.specs.Prelude.{Option, IfOk, OnErr, OnOk}
-use Rattle.ob_shared_connection.specs.Handles.{IsAnother, IsButForShare}
+use Rattle.ob_shared_connection.specs.Calls.{IsAnother, IsButForShare}
 use Rattle.ob_shared_connection.specs.Values.{HandleValue, sharing}
 use Rattle.ob_c.specs.Sharing.{KeepsAnother, MakesAnother}
 

@@ -7,11 +7,9 @@ use Rattle.ob_types.specs.declared.refusal.Refusal.{Refusal}
 use Rattle.ob_seq.specs.Effect.{byte_run, rows_after, bytes_in, pieces_within}
 use Rattle.ob_seq.specs.Looks.{first_blocks, with_bytes}
 use Rattle.ob_connection.specs.Calls.{most_pieces}
-use Rattle.ob_shared_connection.specs.Calls.{UnderLock}
-use Rattle.ob_shared_connection.specs.Log.{commands_of}
-use Rattle.ob_shared_connection.specs.Looking.{Gathers, IsLook}
-use Rattle.ob_shared_connection.specs.Staying.{AreInFront}
-use Rattle.ob_shared_connection.specs.Values.{HandleValue}
+use Rattle.ob_shared_connection.specs.Calls.{UnderLock, Gathers, IsLook}
+use Rattle.ob_shared_connection.specs.Values.{commands_of, HandleValue}
+use Rattle.ob_shared_connection.specs.Sending.{AreInFront}
 use Rattle.ob_c.specs.Gathering.{AreAt}
 use Rattle.ob_c.specs.Numbers.{done}
 use Rattle.ob_c.specs.Sharing.{TriesToGather}

@@ -5,10 +5,8 @@ use Rattle.ob_types.specs.declared.command.Command.{Command}
 use Rattle.ob_types.specs.declared.message.Message.{Message}
 use Rattle.ob_types.specs.declared.refusal.Refusal.{Refusal}
 use Rattle.ob_connection.specs.Connected.{Connected}
-use Rattle.ob_shared_connection.specs.Calls.{UnderLock}
-use Rattle.ob_shared_connection.specs.Looking.{IsLook}
-use Rattle.ob_shared_connection.specs.Removals.{MayGive, leaves_flushed}
-use Rattle.ob_shared_connection.specs.Values.{HandleValue, Held}
+use Rattle.ob_shared_connection.specs.Calls.{UnderLock, IsLook}
+use Rattle.ob_shared_connection.specs.Values.{MayGive, leaves_flushed, HandleValue, Held}
 use Rattle.ob_c.specs.Numbers.{accepted}
 use Rattle.ob_c.specs.Sharing.{IsLookTried, IsMade, IsTried, MessageOf, Tries, TriesTo, TriesToLook, TriesToWithBlock, TriesToWithMemory}
 

@@ -11,7 +11,7 @@ use Rattle.ob_seq.specs.Rows.{Settings}
 use Rattle.ob_seq.specs.State.{writable_after, closed_after, empty_after}
 use Rattle.ob_budget.specs.Bounds.{BoundsValue}
 use Rattle.ob_budget.specs.Calls.{HasLooked}
-use Rattle.ob_budget.specs.Word.{is_pressed, total_of}
+use Rattle.ob_budget.specs.Account.{is_pressed, total_of}
 use Rattle.ob_budget.specs.declared.fault.BoundsFault.{BoundsFault}
 use Rattle.ob_budget.specs.declared.fault.RaiseFault.{RaiseFault}
 use Rattle.ob_budget.specs.declared.fault.RaiseFault.TheVariants.{Full, Busy}

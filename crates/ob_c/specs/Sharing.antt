@@ -10,11 +10,10 @@ use Rattle.ob_seq.specs.Effect.{bytes_in}
 use Rattle.ob_seq.specs.Rows.{Settings}
 use Rattle.ob_connection.specs.Connected.{Connected}
 use Rattle.ob_connection.specs.Obeying.{done_reply}
-use Rattle.ob_shared_connection.specs.Calls.{Makes, ObeyingFreely, UnderLock}
+use Rattle.ob_shared_connection.specs.Calls.{Makes, ObeyingFreely, UnderLock, IsAnother, IsButForShare, IsFirst}
+use Rattle.ob_shared_connection.specs.Calls.{Gathers, IsLook}
 use Rattle.ob_shared_connection.specs.Glances.{IsGlance}
-use Rattle.ob_shared_connection.specs.Handles.{IsAnother, IsButForShare, IsFirst}
-use Rattle.ob_shared_connection.specs.Looking.{Gathers, IsLook}
-use Rattle.ob_shared_connection.specs.Staying.{AreInFront}
+use Rattle.ob_shared_connection.specs.Sending.{AreInFront}
 use Rattle.ob_shared_connection.specs.Values.{HandleValue, Held, sharing}
 use Rattle.ob_shared_connection.specs.declared.glance.Glance.{Glance as GlanceReply}
 use Rattle.ob_c.specs.Gathering.{AreAt}

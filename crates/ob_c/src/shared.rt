@@ -35,7 +35,7 @@ unsafe impl Send for Shared {}
 
 impl Shared {
     ghost use Rattle.ob_shared_connection.specs.Calls.{IsCall};
-    ghost use Rattle.ob_shared_connection.specs.Removals.{MayGive};
+    ghost use Rattle.ob_shared_connection.specs.Values.{MayGive};
     ghost use Rattle.ob_shared_connection.specs.Covering.{Settles, ShowsHeld};
     ghost use Rattle.ob_c.specs.Reaching.{LendsShared};
     ghost use Rattle.ob_c.specs.Sharing.{Tries, TriesTo, TriesToLook};

@@ -1,9 +1,8 @@
 -- What a cover lacks, and what it holds after raises that were refused.
 use Rattle.std.proofs.Common.{◌≡◌, ℕ, ◌-◌, ◌<◌, Option, refl, ◌∙◌, subst}
 use Rattle.std.specs.Prelude.{Result, Ok, Err, IfErr}
-use Rattle.ob_budget.specs.Account.{HoldsAlike}
+use Rattle.ob_budget.specs.Account.{HoldsAlike, SeatValue}
 use Rattle.ob_budget.specs.Calls.{IsRefused}
-use Rattle.ob_budget.specs.Values.{SeatValue}
 use Rattle.ob_budget.specs.declared.account.Account.{Account}
 use Rattle.ob_budget.specs.declared.fault.RaiseFault.{RaiseFault}
 use Rattle.ob_budget.specs.declared.fault.RaiseFault.TheVariants.{Full, Busy}

@@ -1,10 +1,8 @@
 -- How a seat covers the bytes of one connection.
 use Rattle.std.specs.Prelude.{◌≡◌, ◌≤◌, ◌<◌, ◌+◌, ◌-◌, ℕ, Option, Some, None}
-use Rattle.ob_budget.specs.Account.{HoldsAlike, first_account}
+use Rattle.ob_budget.specs.Account.{HoldsAlike, first_account, kept_account, given_account, SeatValue}
 use Rattle.ob_budget.specs.Bounds.{BoundsValue}
 use Rattle.ob_budget.specs.Calls.{IsRefused, most_tries}
-use Rattle.ob_budget.specs.Cut.{kept_account, given_account}
-use Rattle.ob_budget.specs.Values.{SeatValue}
 use Rattle.ob_budget.specs.declared.fault.RaiseFault.{RaiseFault}
 use Rattle.ob_budget.specs.declared.pressure.Pressure.{Pressure}
 use Rattle.ob_budget.specs.declared.pressure.Pressure.TheVariants.{Began, Ended}

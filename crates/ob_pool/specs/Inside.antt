@@ -11,9 +11,7 @@ use Rattle.ob_types.specs.declared.promise.Outcome.{Outcome}
 use Rattle.ob_types.specs.declared.promise.PromiseId.{PromiseId}
 use Rattle.ob_history.specs.History.{IsBeginning}
 use Rattle.ob_history.specs.declared.record.Record.{Record}
-use Rattle.ob_shared.specs.Finish.{HandsInAll}
-use Rattle.ob_shared.specs.Opened.{IsAsOpened, Opened}
-use Rattle.ob_shared.specs.Share.{Handed, made_by}
+use Rattle.ob_shared.specs.Calls.{HandsInAll, IsAsOpened, Opened, Handed, made_by}
 use Rattle.ob_pool.specs.Drive.{room_of, rooms_of, plans_fault}
 use Rattle.ob_pool.specs.Report.{bits_of, cancels_of, flushes_of, refused_of, settled_as, taken_of, writes_of}
 use Rattle.ob_pool.specs.Report.{is_cancel, is_cancelled, is_failed, is_flush, is_success, is_user_bit, removed_by}

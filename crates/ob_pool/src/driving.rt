@@ -4,7 +4,7 @@ ghost use Rattle.std.specs.Prelude.{◌≡◌, ◌<◌, ◌+◌, ℕ, None, leng
 ghost use Rattle.std.specs.Prelude.{IfErr, IfOk, IfSome, IsErrOf, IsSome};
 ghost use Rattle.ob_types.specs.declared.refusal.Refusal.{Refusal};
 ghost use Rattle.ob_types.specs.declared.refusal.Refusal.TheVariants.{HistoryFull};
-ghost use Rattle.ob_shared.specs.Opened.{IsNameOf};
+ghost use Rattle.ob_shared.specs.Calls.{IsNameOf};
 ghost use Rattle.ob_pool.specs.Drive.{AreWithin, first_history, ComesOfWork, NamesOneOf, number_of, plans_fault};
 ghost use Rattle.ob_pool.specs.Inside.{AreChecked};
 ghost use Rattle.ob_pool.specs.Report.{TellsOf, TellsOfSink};

@@ -2,8 +2,7 @@
 
 ghost use Rattle.std.specs.List.{All};
 ghost use Rattle.std.specs.Prelude.{◌≡◌, ◌+◌, length, map, IfOk, IsOkUnless};
-ghost use Rattle.ob_shared.specs.Opened.{IsNameOf};
-ghost use Rattle.ob_shared.specs.Share.{new_share, new_shares};
+ghost use Rattle.ob_shared.specs.Calls.{IsNameOf, new_share, new_shares};
 ghost use Rattle.ob_pool.specs.Inside.{HaveRooms};
 ghost use Rattle.ob_pool.specs.Threads.{IsRoomy, asked, room_for, work_from};
 

@@ -6,9 +6,7 @@ use Rattle.ob_history.specs.History.{History}
 use Rattle.ob_history.specs.Receipts.{receipt_of}
 use Rattle.ob_history.specs.declared.receipt.Receipt.{Receipt}
 use Rattle.ob_history.proofs.Calls.{called_with_place}
-use Rattle.ob_shared.specs.Calls.{with_record_of}
-use Rattle.ob_shared.specs.Share.{Handed, Maker, one_more, ShareValue, share_after}
-use Rattle.ob_shared.specs.Sight.{sight_of}
+use Rattle.ob_shared.specs.Calls.{with_record_of, Handed, Maker, one_more, ShareValue, share_after, sight_of}
 
 -- what is handed in of a caller with another share and other receipts
 abbrev pub now_with : Handed → ShareValue → List Receipt → Handed

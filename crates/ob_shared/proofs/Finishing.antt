@@ -17,8 +17,8 @@ use Rattle.ob_history.specs.declared.receipt.Receipt.{Receipt}
 use Rattle.ob_history.proofs.First.{first_against}
 use Rattle.ob_history.proofs.Own.{HoldsIts, all_are_held}
 use Rattle.ob_history.proofs.Told.{none_found}
-use Rattle.ob_shared.specs.Share.{Handed, LacksShare, made_by}
-use Rattle.ob_shared.specs.Finish.{HandsInAll, StandsIn, first_short, is_short, BreaksAt, IsFirstForeign, IsForeign}
+use Rattle.ob_shared.specs.Calls.{Handed, LacksShare, made_by, HandsInAll, StandsIn, first_short, is_short, BreaksAt}
+use Rattle.ob_shared.specs.Calls.{IsFirstForeign, IsForeign}
 use Rattle.ob_shared.proofs.HandedIn.{each_handed_in_once}
 
 -- a list breaks a property at the place that the item names with which it first does

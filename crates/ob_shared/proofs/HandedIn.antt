@@ -6,7 +6,7 @@ use Rattle.std.specs.Set.{remove_key}
 use Rattle.std.proofs.lemmas.Bool.{eq-eqb, eqb-true, true_from_ne_false, false_from_ne_true}
 use Rattle.std.proofs.lemmas.List.Folds.{list_any_at}
 use Rattle.std.proofs.lemmas.Map.Made.{length-remove_key}
-use Rattle.ob_shared.specs.Share.{Handed, LacksShare, has_handed_in}
+use Rattle.ob_shared.specs.Calls.{Handed, LacksShare, has_handed_in}
 
 -- without the first who handed in as a caller
 abbrev without : ℕ → List Handed → List Handed

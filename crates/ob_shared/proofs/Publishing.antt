@@ -12,7 +12,7 @@ use Rattle.ob_history.specs.Seen.{glance_after}
 use Rattle.ob_history.specs.declared.record.Record.{Record}
 use Rattle.ob_history.proofs.Beginnings.{begins_itself, begins_further, none_begin}
 use Rattle.ob_shared.specs.Published.{Knows, Learns, Reads, Fits, Ruled, publishing, reading}
-use Rattle.ob_shared.specs.Sight.{packed_glance}
+use Rattle.ob_shared.specs.Calls.{packed_glance}
 use Rattle.ob_shared.specs.declared.rule.View.{View}
 
 abbrev St : Type 0

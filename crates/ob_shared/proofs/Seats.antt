@@ -4,9 +4,8 @@ use Rattle.atomic_table.specs.declared.shared.Seat.{Seat}
 use Rattle.ob_history.specs.History.{IsLegal}
 use Rattle.ob_history.specs.Seen.{glance_after}
 use Rattle.ob_history.specs.declared.record.Record.{Record}
-use Rattle.ob_shared.specs.Opened.{Opened}
+use Rattle.ob_shared.specs.Calls.{Opened, packed_glance}
 use Rattle.ob_shared.specs.Published.{Knows, publishing, reading, HasPublished, IsReader}
-use Rattle.ob_shared.specs.Sight.{packed_glance}
 use Rattle.ob_shared.specs.declared.rule.View.{View}
 
 module _ (opened : Opened) (old new : Seat (Unit {0}) View) (table : new.table_id ≡ old.table_id) where

@@ -8,10 +8,9 @@ use Rattle.ob_seq.specs.Rows.{Settings}
 use Rattle.ob_history.specs.History.{IsBeginning, IsLegal}
 use Rattle.ob_history.specs.Seen.{glance_after}
 use Rattle.ob_history.specs.declared.record.Record.{Record}
-use Rattle.ob_shared.specs.Sight.{packed_glance}
+use Rattle.ob_shared.specs.Calls.{packed_glance, Opened}
 use Rattle.ob_shared.specs.declared.rule.View.{View}
 use Rattle.atomic_table.specs.declared.shared.Seat.{Seat}
-use Rattle.ob_shared.specs.Opened.{Opened}
 use Rattle.atomic_table.specs.Seated.{TableId}
 use Rattle.ob_types.specs.Marks.{Marks}
 use Rattle.ob_types.specs.declared.estimate.Estimate.{Estimate}

@@ -16,10 +16,8 @@ use Rattle.ob_history.specs.Receipts.{receipt_of}
 use Rattle.ob_history.specs.declared.record.Record.{Record}
 use Rattle.ob_history.specs.declared.receipt.Receipt.{Receipt}
 use Rattle.ob_history.specs.declared.seen.Seen.{Seen}
-use Rattle.ob_shared.specs.Finish.{HandsInAll, StandsIn, first_short, IsForeign}
-use Rattle.ob_shared.specs.Share.{Handed, HasNoLooks, LacksShare, made_by}
-use Rattle.ob_shared.specs.Sight.{IsRead, packed_glance, sight_of}
-use Rattle.ob_shared.specs.Calls.{IsUnknown, IsUnsettled, TellsOf}
+use Rattle.ob_shared.specs.Calls.{HandsInAll, StandsIn, first_short, IsForeign, Handed, HasNoLooks, LacksShare, made_by}
+use Rattle.ob_shared.specs.Calls.{IsRead, packed_glance, sight_of, IsUnknown, IsUnsettled, TellsOf}
 
 -- Netty's marks and sizes
 abbrev pub settings : Settings

@@ -3,8 +3,7 @@ ghost use Rattle.std.specs.Sync.Mutex.{mutex_guard_value};
 ghost use Rattle.ob_history.specs.Call.{next_record};
 ghost use Rattle.ob_history.specs.Receipts.{KeepsReceipt};
 ghost use Rattle.ob_history.specs.Words.{IsBeginning, IsCall, IsRecording, IsReservation, IsBufferOf, AreGivenSince, IsLookAt};
-ghost use Rattle.ob_shared.specs.Share.{one_more, share_after};
-ghost use Rattle.ob_shared.specs.Opened.{IsAsOpened};
+ghost use Rattle.ob_shared.specs.Calls.{one_more, share_after, IsAsOpened};
 
 use crate::locked::Locked;
 use crate::named::Named;
@@ -32,7 +31,7 @@ pub struct Desk<'b, L: Named> {
 
 impl<'b, L: Named> Model for Desk<'b, L> {
     ghost use Rattle.std.specs.Sync.Mutex.{mutex_guard_value};
-    ghost use Rattle.ob_shared.specs.Share.{Held};
+    ghost use Rattle.ob_shared.specs.Calls.{Held};
 
     ghost Value = { Held };
 

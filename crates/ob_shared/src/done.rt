@@ -23,7 +23,7 @@ pub struct Done<L: Named> {
 }
 
 impl<L: Named> Model for Done<L> {
-    ghost use Rattle.ob_shared.specs.Share.{Handed};
+    ghost use Rattle.ob_shared.specs.Calls.{Handed};
 
     ghost Value = { Handed };
 

@@ -2,8 +2,8 @@
 
 ghost use Rattle.std.specs.Prelude.{◌≡◌, ◌↔◌, [], IfOk, IfSome, IsNone, IsOk, IsOkUnless, IsTrue};
 ghost use Rattle.std.specs.List.{All};
-ghost use Rattle.ob_shared.specs.Finish.{StandsIn, first_short, is_short, IsFirstForeign, IsForeign};
-ghost use Rattle.ob_shared.specs.Share.{HasNoLooks, LacksShare, has_handed_in};
+ghost use Rattle.ob_shared.specs.Calls.{StandsIn, first_short, is_short, IsFirstForeign, IsForeign, HasNoLooks};
+ghost use Rattle.ob_shared.specs.Calls.{LacksShare, has_handed_in};
 
 use crate::done::Done;
 use crate::named::Named;

@@ -23,7 +23,7 @@ pub enum FinishFault {
 }
 
 impl FinishFault {
-    ghost use Rattle.ob_shared.specs.Finish.{number_of};
+    ghost use Rattle.ob_shared.specs.Calls.{number_of};
 
     /// The number of the fault, 1 to 4.
     pub fn number(self) -> u8

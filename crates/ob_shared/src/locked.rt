@@ -8,10 +8,8 @@ ghost use Rattle.ob_history.specs.Call.{next_record};
 ghost use Rattle.ob_history.specs.Receipts.{KeepsReceipt};
 ghost use Rattle.ob_history.specs.Words.{accepted_commands, IsBeginning, IsCall, IsRecording, IsReservation, new_history};
 ghost use Rattle.ob_history.specs.Words.{IsBufferOf, AreGivenSince, receipt_of, IsLookAt, settlements_in};
-ghost use Rattle.ob_shared.specs.Finish.{HandsInAll, StandsIn, first_short, IsForeign, after_meeting};
-ghost use Rattle.ob_shared.specs.Share.{HasNoLooks, LacksShare, made_by, one_more, share_after};
-ghost use Rattle.ob_shared.specs.Opened.{IsAsOpened};
-ghost use Rattle.ob_shared.specs.Sight.{IsCheckIn};
+ghost use Rattle.ob_shared.specs.Calls.{HandsInAll, StandsIn, first_short, IsForeign, after_meeting, HasNoLooks};
+ghost use Rattle.ob_shared.specs.Calls.{LacksShare, made_by, one_more, share_after, IsAsOpened, IsCheckIn};
 ghost use Rattle.ob_shared.specs.Calls.{IsCopiedFreely, IsToldFreely, IsUnknown, IsUnsettled, TellsOf};
 ghost use Rattle.ob_shared.specs.declared.finish_fault.FinishFault.TheVariants.{ForeignReceipt, ReceiptsMissing};
 

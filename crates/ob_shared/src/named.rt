@@ -8,14 +8,14 @@ use std::sync::ledger::Ledger;
 /// `std::marker::Brand` for the name, and pick what it stands for in the caller's `Invariants.antt`: `Named` is the
 /// opening, and `Ledger` its `ledger` and its `callers`, as the tests of this crate do.
 pub trait Named: Ledger {
-    ghost use Rattle.ob_shared.specs.Opened.{Opened};
+    ghost use Rattle.ob_shared.specs.Calls.{Opened};
 
     /// What was opened under the name.
     ghost opened: { Opened };
 }
 
 impl Named for Brand {
-    ghost use Rattle.ob_shared.specs.Opened.{nothing_opened};
+    ghost use Rattle.ob_shared.specs.Calls.{nothing_opened};
 
     ghost opened = { nothing_opened };
 }

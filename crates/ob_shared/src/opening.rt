@@ -1,7 +1,6 @@
 ghost use Rattle.std.specs.Prelude.{◌≡◌, ◌<◌, ◌≤◌, [], IfOk, IsOkUnless, OnOk};
 ghost use Rattle.ob_history.specs.Seen.{glance_after};
-ghost use Rattle.ob_shared.specs.Opened.{IsNameOf};
-ghost use Rattle.ob_shared.specs.Share.{new_shares};
+ghost use Rattle.ob_shared.specs.Calls.{IsNameOf, new_shares};
 
 use crate::callers::Callers;
 use crate::locked::Locked;
@@ -34,7 +33,7 @@ pub struct Opening {
 impl Model for Opening {
     ghost use Rattle.std.specs.Prelude.{◌≡◌, ◌<◌, ◌≤◌};
     ghost use Rattle.ob_shared.specs.Published.{IsNewTable};
-    ghost use Rattle.ob_shared.specs.Opened.{Opened};
+    ghost use Rattle.ob_shared.specs.Calls.{Opened};
 
     ghost Value = { Opened };
 

@@ -1,7 +1,7 @@
 ghost use Rattle.std.specs.Prelude.{◌≡◌, false, []};
 ghost use Rattle.ob_history.specs.History.{IsLegal};
 ghost use Rattle.ob_shared.specs.Published.{IsReader};
-ghost use Rattle.ob_shared.specs.Sight.{IsRead, Sight, sight_of};
+ghost use Rattle.ob_shared.specs.Calls.{IsRead, Sight, sight_of};
 
 use crate::named::Named;
 use crate::rule::View;

@@ -1,6 +1,5 @@
 ghost use Rattle.std.specs.Prelude.{◌≡◌, ◌+◌, ◌-◌, ◌<◌, ◌^◌, []};
-ghost use Rattle.ob_shared.specs.Share.{one_more, new_share};
-ghost use Rattle.ob_shared.specs.Sight.{IsRead, sight_of};
+ghost use Rattle.ob_shared.specs.Calls.{one_more, new_share, IsRead, sight_of};
 
 use crate::named::Named;
 use crate::reader::Reader;
@@ -22,7 +21,7 @@ pub struct Share<L: Named> {
 
 impl<L: Named> Model for Share<L> {
     ghost use Rattle.std.specs.Prelude.{◌≡◌};
-    ghost use Rattle.ob_shared.specs.Share.{ShareValue};
+    ghost use Rattle.ob_shared.specs.Calls.{ShareValue};
 
     ghost Value = { ShareValue };
 

@@ -4,11 +4,9 @@ ghost use Rattle.std.specs.Sync.Mutex.{mutex_guard_value};
 ghost use Rattle.ob_types.specs.declared.promise.PromiseId.{PromiseId};
 ghost use Rattle.ob_seq.specs.Pending.{times_settled};
 ghost use Rattle.ob_history.specs.Words.{IsBeginning, settlements_in};
-ghost use Rattle.ob_shared.specs.Calls.{IsKept, IsToldFreely, IsUnknown, IsUnsettled, TellsOf};
-ghost use Rattle.ob_shared.specs.Finish.{HandsInAll, StandsIn, first_short, IsGivenBack};
-ghost use Rattle.ob_shared.specs.Share.{HasNoLooks, LacksShare, made_by};
-ghost use Rattle.ob_shared.specs.Opened.{IsAsOpened};
-ghost use Rattle.ob_shared.specs.Sight.{IsCheckIn};
+ghost use Rattle.ob_shared.specs.Calls.{IsKept, IsToldFreely, IsUnknown, IsUnsettled, TellsOf, HandsInAll, StandsIn};
+ghost use Rattle.ob_shared.specs.Calls.{first_short, IsGivenBack, HasNoLooks, LacksShare, made_by, IsAsOpened};
+ghost use Rattle.ob_shared.specs.Calls.{IsCheckIn};
 ghost use Rattle.ob_shared.specs.declared.finish_fault.FinishFault.TheVariants.{ReceiptsMissing};
 
 use crate::callers::Callers;

@@ -2,7 +2,7 @@
 #![tactic(auto)]
 
 ghost use Rattle.std.specs.Prelude.{◌≡◌};
-ghost use Rattle.ob_shared.specs.Opened.{IsNameOf};
+ghost use Rattle.ob_shared.specs.Calls.{IsNameOf};
 ghost use Rattle.ob_transport.specs.Pass.{standing};
 ghost use Rattle.ob_shared_callers.specs.SendsOn.{SendsNext, SendsOn};
 

@@ -18,7 +18,7 @@ use Rattle.ob_connection.specs.Connected.{Connected, StandsForSome, connection_l
 use Rattle.ob_connection.specs.Connected.{Refuses}
 use Rattle.ob_connection.specs.Obeying.{Accepts, Obeys}
 use Rattle.ob_covered.specs.Cover.{CoverValue}
-use Rattle.ob_shared_connection.specs.Covers.{Adds, CountsAs, HoldsFor, Passes, PassesRoom, held_by}
+use Rattle.ob_shared_connection.specs.Values.{Adds, CountsAs, HoldsFor, Passes, PassesRoom, held_by}
 
 -- a connection that obeyed accepts
 pub accepts_obeyed : {A : Type 0} (old new : Connected) (command : Command) (tell : List PromiseState → A → Reply)

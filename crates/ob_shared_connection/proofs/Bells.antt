@@ -5,8 +5,8 @@ use Rattle.std.proofs.lemmas.List.{get_or-set_other}
 use mathlib.Core.Option.{some}
 use lib.ListN.{get_elem?}
 use Rattle.atomic_table.proofs.Lists.{at_set}
-use Rattle.ob_shared_connection.specs.Bells.{awaited, bell_word, is_owed, is_silent, silent, silenced, unheard}
-use Rattle.ob_shared_connection.specs.Ruled.{IsBell, Past}
+use Rattle.ob_shared_connection.specs.Ruled.{awaited, bell_word, is_owed, is_silent, silent, silenced, unheard, IsBell}
+use Rattle.ob_shared_connection.specs.Ruled.{Past}
 use Rattle.ob_shared_connection.specs.declared.bell.Waiter.{Waiter}
 use Rattle.ob_shared_connection.specs.declared.bell.Waiter.TheVariants.{Writer, Sender}
 use Rattle.ob_shared_connection.specs.declared.view.Bells.{Bells}

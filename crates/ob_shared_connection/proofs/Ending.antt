@@ -10,13 +10,11 @@ use Rattle.atomic_table.specs.Seated.{TableId}
 use Rattle.atomic_table.specs.Table.{Final, Seen}
 use Rattle.atomic_table.proofs.Lists.{set_else}
 use Rattle.ob_seq.specs.Rows.{Settings}
-use Rattle.ob_shared_connection.specs.Covers.{IsCovered, Within, cover_of}
-use Rattle.ob_shared_connection.specs.Handles.{IsEnd}
-use Rattle.ob_shared_connection.specs.Log.{commands_by}
-use Rattle.ob_shared_connection.specs.Ruled.{AreShared, AtHome, IsTaken, Ruled, calls_with, count_if, handles_of, spent_view}
-use Rattle.ob_shared_connection.specs.Shares.{IsWhole}
+use Rattle.ob_shared_connection.specs.Values.{IsCovered, Within, cover_of, commands_by, IsWhole, IsLeftBy}
+use Rattle.ob_shared_connection.specs.Calls.{IsEnd}
+use Rattle.ob_shared_connection.specs.Ruled.{AreShared, AtHome, IsTaken, Ruled, calls_with, count_if, handles_of}
+use Rattle.ob_shared_connection.specs.Ruled.{spent_view}
 use Rattle.ob_shared_connection.specs.Steps.{IsNamed, handle_of}
-use Rattle.ob_shared_connection.specs.Values.{IsLeftBy}
 use Rattle.ob_shared_connection.specs.declared.carried.Carried.{Carried}
 use Rattle.ob_shared_connection.specs.declared.view.View.{View}
 use Rattle.ob_shared_connection.proofs.Lists.{at_read, sum_set}

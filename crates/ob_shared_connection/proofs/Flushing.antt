@@ -8,8 +8,7 @@ use Rattle.ob_connection.specs.Connected.{Connected, StandsFor}
 use Rattle.ob_connection.specs.Obeying.{Obeys, written_reply}
 use Rattle.ob_connection.specs.declared.replies.Flushed.{Flushed}
 use Rattle.ob_connection.specs.declared.replies.Written.{Written}
-use Rattle.ob_shared_connection.specs.Acts.{Continues}
-use Rattle.ob_shared_connection.specs.Calls.{Flushing}
+use Rattle.ob_shared_connection.specs.Calls.{Continues, Flushing}
 
 pub write_and_flush_go_on : (old between new : Connected) (message : Message) (written : Written) (flushed : Flushed)
     → (let result : Result Written Refusal = Ok written in Obeys old (Write message) written_reply result between)

@@ -7,8 +7,7 @@ use Rattle.ob_types.specs.declared.refusal.Refusal.{Refusal}
 use Rattle.ob_connection.specs.Connected.{Connected, StandsFor}
 use Rattle.ob_connection.specs.Obeying.{GivesUp}
 use Rattle.ob_connection.specs.declared.replies.Taken.{Taken}
-use Rattle.ob_shared_connection.specs.Acts.{Continues}
-use Rattle.ob_shared_connection.specs.Calls.{giving_up}
+use Rattle.ob_shared_connection.specs.Calls.{Continues, giving_up}
 
 pub gives_up_goes_on : (old : Connected) (cause : Cause) (result : Result Taken Refusal) (new : Connected)
     → IfOk result (λ taken. GivesUp old cause taken new) → OnOk result (Continues old (giving_up cause) new)

@@ -17,8 +17,8 @@ use Rattle.ob_connection.specs.declared.look.Look.{Look}
 use Rattle.ob_covered.specs.Budgeted.{pending}
 use Rattle.ob_covered.specs.Cover.{CoverValue}
 use Rattle.ob_covered.proofs.Pending.{covered, shown}
-use Rattle.ob_shared_connection.specs.Acts.{Continues}
-use Rattle.ob_shared_connection.specs.Covers.{FitsIn, IsUnder, bytes_written, counted_if, held_by}
+use Rattle.ob_shared_connection.specs.Calls.{Continues}
+use Rattle.ob_shared_connection.specs.Values.{FitsIn, IsUnder, bytes_written, counted_if, held_by}
 
 -- a command that writes nothing
 falls : (settings : Settings) (history : List Command) (command : Command) → is_write command ≡ false

@@ -8,8 +8,8 @@ use Rattle.std.proofs.lemmas.List.Sums.{AllPass-from_list_all, sum_by-set}
 use mathlib.Core.Option.{some, some-injective, some-ne-none}
 use lib.ListN.{get_elem?}
 use Rattle.ob_types.specs.declared.command.Command.{Command}
-use Rattle.ob_shared_connection.specs.Log.{IsBeginning, calls_of, commands_by, commands_of}
-use Rattle.ob_shared_connection.specs.Removals.{MayGive, NoneRemoves, leaves_flushed}
+use Rattle.ob_shared_connection.specs.Values.{IsBeginning, calls_of, commands_by, commands_of, MayGive, NoneRemoves}
+use Rattle.ob_shared_connection.specs.Values.{leaves_flushed}
 use Rattle.ob_shared_connection.specs.declared.call.Call.{Call}
 
 -- a list that ends with nothing more is itself

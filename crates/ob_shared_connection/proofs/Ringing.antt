@@ -9,10 +9,9 @@ use lib.ListN.{get_elem?}
 use Rattle.atomic_table.specs.Table.{Allows, keeps}
 use Rattle.atomic_table.specs.declared.shared.Seat.{Seat}
 use Rattle.atomic_table.proofs.Lists.{at_set}
-use Rattle.ob_shared_connection.specs.Bells.{awaited, bell_word, is_silent, silent, silenced}
-use Rattle.ob_shared_connection.specs.Ruled.{AreCounted, IsShown, IsVacant, Ruled, hearing_view}
+use Rattle.ob_shared_connection.specs.Ruled.{awaited, bell_word, is_silent, silent, silenced, AreCounted, IsShown}
+use Rattle.ob_shared_connection.specs.Ruled.{IsVacant, Ruled, hearing_view, IsSeatOf, table_of}
 use Rattle.ob_shared_connection.specs.Steps.{Awaits, HasLock, Hears, Knows}
-use Rattle.ob_shared_connection.specs.Tables.{IsSeatOf, table_of}
 use Rattle.ob_shared_connection.specs.declared.bell.Waiter.{Waiter}
 use Rattle.ob_shared_connection.specs.declared.carried.Carried.{Carried}
 use Rattle.ob_shared_connection.specs.declared.shared.Shared.{Shared}

@@ -8,8 +8,8 @@ use mathlib.Core.Option.{Option, none, some, some-injective, some-ne-none}
 use native.Mathlib.Decide.{ℕ_discrete}
 use lib.ListN.{get_elem?}
 use Rattle.atomic_table.specs.Table.{Allows, keeps}
-use Rattle.ob_shared_connection.specs.Bells.{bell_word}
-use Rattle.ob_shared_connection.specs.Ruled.{AreCounted, Fits, IsShown, Past, Ruled, resigned_view, sending_view}
+use Rattle.ob_shared_connection.specs.Ruled.{bell_word, AreCounted, Fits, IsShown, Past, Ruled, resigned_view}
+use Rattle.ob_shared_connection.specs.Ruled.{sending_view}
 use Rattle.ob_shared_connection.specs.Steps.{Appoints, HasLock, Knows}
 use Rattle.ob_shared_connection.specs.declared.bell.Waiter.{Waiter}
 use Rattle.ob_shared_connection.specs.declared.view.View.{View}

@@ -12,10 +12,10 @@ use Rattle.atomic_table.proofs.Lists.{at_longer, at_set, exchanged, set_else}
 use Rattle.ob_types.specs.Marks.{packed}
 use Rattle.ob_seq.proofs.Word.Marks.{word_at_start}
 use Rattle.ob_connection.specs.Connected.{StandsFor}
-use Rattle.ob_shared_connection.specs.Bells.{bell_word}
-use Rattle.ob_shared_connection.specs.Covers.{IsCovered, cover_of}
-use Rattle.ob_shared_connection.specs.Log.{commands_by}
-use Rattle.ob_shared_connection.specs.Ruled.{Fits, HasShare, IsShown, IsVacant, Past, Ruled, both_views, calls_with, count_if, first_view, handles_of, named_view, new_view, sharing_view, spent_view, within_of}
+use Rattle.ob_shared_connection.specs.Ruled.{bell_word, Fits, HasShare, IsShown, IsVacant, Past, Ruled, both_views}
+use Rattle.ob_shared_connection.specs.Ruled.{calls_with, count_if, first_view, handles_of, named_view, new_view}
+use Rattle.ob_shared_connection.specs.Ruled.{sharing_view, spent_view, within_of}
+use Rattle.ob_shared_connection.specs.Values.{IsCovered, cover_of, commands_by}
 use Rattle.ob_shared_connection.specs.Steps.{Names}
 use Rattle.ob_shared_connection.specs.declared.bell.Waiter.{Waiter}
 use Rattle.ob_shared_connection.specs.declared.bell.Waiter.TheVariants.{Writer, Sender}

@@ -22,10 +22,9 @@ use Rattle.ob_connection.specs.declared.connection.sending.Sent.{Sent}
 use Rattle.ob_connection.specs.declared.replies.Taken.{Taken}
 use Rattle.ob_connection.specs.declared.socket.SocketFault.{SocketFault}
 use Rattle.ob_shared_connection.specs.Calls.{Makes, Taking, UnderLock}
-use Rattle.ob_shared_connection.specs.Log.{commands_of}
+use Rattle.ob_shared_connection.specs.Values.{commands_of, HandleValue, Held, IsLeft}
 use Rattle.ob_shared_connection.specs.Sending.{Asked, Asks, Offering, Offers, OffersNothing, TakesAway, Told}
-use Rattle.ob_shared_connection.specs.Staying.{AreInFront}
-use Rattle.ob_shared_connection.specs.Values.{HandleValue, Held, IsLeft}
+use Rattle.ob_shared_connection.specs.Sending.{AreInFront}
 use Rattle.ob_shared_connection.specs.declared.offered.Offered.{Offered}
 use Rattle.ob_shared_connection.specs.declared.offered.Offered.TheVariants.{Blocks}
 use Rattle.ob_shared_connection.specs.declared.transport.sending.SendFault.{SendFault}

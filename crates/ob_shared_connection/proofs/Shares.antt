@@ -11,7 +11,7 @@ use mathlib.Core.Option.{some, some-injective, some-ne-none}
 use lib.ListN.{get_elem?}
 use Rattle.atomic_table.proofs.Lists.{at_set}
 use Rattle.ob_shared_connection.specs.Ruled.{AreShared, HasShare, both_views, new_view, sharing_view, spent_view}
-use Rattle.ob_shared_connection.specs.Shares.{IsWhole, halves, halvings, parts_in}
+use Rattle.ob_shared_connection.specs.Values.{IsWhole, halves, halvings, parts_in}
 use Rattle.ob_shared_connection.specs.declared.view.View.{View}
 use Rattle.ob_shared_connection.proofs.Lists.{at_more, sum_set}
 

@@ -24,8 +24,8 @@ use Rattle.ob_seq.proofs.Rows.History.{accepted_by, closed_more, rows_after_more
 use Rattle.ob_seq.proofs.Rows.Order.{IsFresh, IsStanding, Layout, each_append, flush_parts, layout_of, reached_stands}
 use Rattle.ob_seq.proofs.Rows.Parts.{front_of_parts, line_of_parts}
 use Rattle.ob_connection.specs.Connected.{connection_limit}
-use Rattle.ob_shared_connection.specs.Removals.{leaves_flushed}
-use Rattle.ob_shared_connection.specs.Staying.{BytesStay, Stays, blocks_after}
+use Rattle.ob_shared_connection.specs.Values.{leaves_flushed}
+use Rattle.ob_shared_connection.specs.Sending.{BytesStay, Stays, blocks_after}
 
 -- the unread parts of the rows in line
 abbrev messages : List Row → List Message

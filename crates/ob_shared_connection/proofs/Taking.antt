@@ -18,13 +18,9 @@ use Rattle.ob_connection.specs.Connected.{connection_accepts, connection_accepts
 use Rattle.ob_connection.specs.Connected.{AreGathered}
 use Rattle.ob_connection.specs.Obeying.{promises_after, taken_reply, told_by}
 use Rattle.ob_connection.specs.declared.replies.Taken.{Taken}
-use Rattle.ob_shared_connection.specs.Calls.{IsLock, Makes, Taking, UnderLock}
-use Rattle.ob_shared_connection.specs.Log.{commands_of}
-use Rattle.ob_shared_connection.specs.Looking.{Gathers, IsLook}
-use Rattle.ob_shared_connection.specs.Removals.{leaves_flushed}
-use Rattle.ob_shared_connection.specs.Sending.{Accepts}
-use Rattle.ob_shared_connection.specs.Staying.{AreInFront, blocks_after}
-use Rattle.ob_shared_connection.specs.Values.{HandleValue, Held, IsLeft}
+use Rattle.ob_shared_connection.specs.Calls.{IsLock, Makes, Taking, UnderLock, Gathers, IsLook}
+use Rattle.ob_shared_connection.specs.Values.{commands_of, leaves_flushed, HandleValue, Held, IsLeft}
+use Rattle.ob_shared_connection.specs.Sending.{Accepts, AreInFront, blocks_after}
 use Rattle.ob_shared_connection.specs.declared.call.Call.{Call}
 use Rattle.ob_shared_connection.proofs.Staying.{bytes_stay}
 

@@ -7,14 +7,13 @@ use Rattle.ob_types.specs.Marks.{packed}
 use Rattle.ob_types.specs.declared.command.Command.{Command}
 use Rattle.ob_connection.specs.Connected.{Connected, StandsFor}
 use Rattle.ob_covered.specs.Cover.{CoverValue}
-use Rattle.ob_shared_connection.specs.Acts.{Continues}
-use Rattle.ob_shared_connection.specs.Calls.{IsCall, IsLock}
-use Rattle.ob_shared_connection.specs.Covers.{IsCovered, IsUnder, budget_of, cover_of}
+use Rattle.ob_shared_connection.specs.Calls.{Continues, IsCall, IsLock}
+use Rattle.ob_shared_connection.specs.Values.{IsCovered, IsUnder, budget_of, cover_of, calls_of, commands_by}
+use Rattle.ob_shared_connection.specs.Values.{commands_of, IsLeftBy, recovered}
 use Rattle.ob_shared_connection.specs.Glances.{IsGlance, IsLegal, glance_after}
-use Rattle.ob_shared_connection.specs.Log.{calls_of, commands_by, commands_of}
 use Rattle.ob_shared_connection.specs.Ruled.{settings_of, view_with}
-use Rattle.ob_shared_connection.specs.Steps.{Holds, IsNamed, Knows, Locks, Reads, Rests, carried_in, connected_in, cover_in, handle_of, held_of}
-use Rattle.ob_shared_connection.specs.Values.{IsLeftBy, recovered}
+use Rattle.ob_shared_connection.specs.Steps.{Holds, IsNamed, Knows, Locks, Reads, Rests, carried_in, connected_in}
+use Rattle.ob_shared_connection.specs.Steps.{cover_in, handle_of, held_of}
 use Rattle.ob_shared_connection.specs.declared.call.Call.{Call}
 use Rattle.ob_shared_connection.specs.declared.carried.Carried.{Carried}
 use Rattle.ob_shared_connection.specs.declared.glance.Glance.{Glance}

@@ -11,8 +11,8 @@ use Rattle.ob_connection.specs.declared.connection.sending.Sent.{Sent}
 use Rattle.ob_connection.specs.declared.ending.Ending.{Ending}
 use Rattle.ob_connection.specs.declared.ending.Ending.TheVariants.{TurnsUsed}
 use Rattle.ob_connection.specs.declared.replies.SentTurns.{SentTurns}
-use Rattle.ob_shared_connection.specs.Sending.{SendsOnce, Told}
-use Rattle.ob_shared_connection.specs.Turns.{EndsWith, GoesOn, MakesTurns, Reports, SendsEach, SendsWithin, ended_by, first_change}
+use Rattle.ob_shared_connection.specs.Sending.{SendsOnce, Told, EndsWith, GoesOn, MakesTurns, Reports, SendsEach}
+use Rattle.ob_shared_connection.specs.Sending.{SendsWithin, ended_by, first_change}
 use Rattle.ob_shared_connection.specs.Values.{HandleValue}
 use Rattle.ob_shared_connection.specs.declared.transport.sending.SendFault.{SendFault}
 

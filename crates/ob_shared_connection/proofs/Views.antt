@@ -8,10 +8,9 @@ use native.Mathlib.Decide.{ℕ_discrete}
 use lib.ListN.{get_elem?}
 use Rattle.atomic_table.specs.Table.{State}
 use Rattle.atomic_table.proofs.Lists.{at_set, set_again, set_else, set_here}
-use Rattle.ob_shared_connection.specs.Bells.{bell_word}
-use Rattle.ob_shared_connection.specs.Log.{IsBeginning}
-use Rattle.ob_shared_connection.specs.Removals.{leaves_flushed}
-use Rattle.ob_shared_connection.specs.Ruled.{AllFit, AreCounted, Fits, IsNobodys, IsShown, IsTaken, Past, Ruled, calls_with, handles_of}
+use Rattle.ob_shared_connection.specs.Ruled.{bell_word, AllFit, AreCounted, Fits, IsNobodys, IsShown, IsTaken, Past}
+use Rattle.ob_shared_connection.specs.Ruled.{Ruled, calls_with, handles_of}
+use Rattle.ob_shared_connection.specs.Values.{IsBeginning, leaves_flushed}
 use Rattle.ob_shared_connection.specs.Steps.{Knows}
 use Rattle.ob_shared_connection.specs.declared.bell.Waiter.{Waiter}
 use Rattle.ob_shared_connection.specs.declared.call.Call.{Call}

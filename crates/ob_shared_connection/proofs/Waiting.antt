@@ -4,12 +4,10 @@ use Rattle.std.proofs.lemmas.List.Elements.{All-append, All-nil}
 use Rattle.std.proofs.lemmas.List.{append-nil}
 use Rattle.ob_types.specs.declared.command.Command.{Command}
 use Rattle.ob_shared_connection.specs.Calls.{IsLock}
-use Rattle.ob_shared_connection.specs.Log.{commands_by, commands_of}
-use Rattle.ob_shared_connection.specs.Removals.{leaves_flushed}
+use Rattle.ob_shared_connection.specs.Values.{commands_by, commands_of, leaves_flushed, HandleValue, Held}
 use Rattle.ob_shared_connection.specs.Ruled.{hearing_view, settings_of, shown_view}
 use Rattle.ob_shared_connection.specs.Steps.{Holds, Hushes, IsRung, Knows, MayLeave}
-use Rattle.ob_shared_connection.specs.Values.{HandleValue, Held}
-use Rattle.ob_shared_connection.specs.Waiting.{is_due, moment_after}
+use Rattle.ob_shared_connection.specs.Glances.{is_due, moment_after}
 use Rattle.ob_shared_connection.specs.declared.bell.Waiter.{Waiter}
 use Rattle.ob_shared_connection.specs.declared.bell.Waiter.TheVariants.{Writer, Sender}
 use Rattle.ob_shared_connection.specs.declared.call.Call.{Call}

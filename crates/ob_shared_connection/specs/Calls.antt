@@ -1,5 +1,7 @@
--- What a handle is told at the lock, and what a call promises.
-use Rattle.std.specs.Prelude.{◌≡◌, ◌≢◌, true, false, None, List, [], ◌∷◌, ◌++◌, Result, Ok, Err, IfErr, IfOk, IsErrOf, OnErr, OnOk, is_err}
+-- What a handle is told at the lock, and what a call promises: how handles begin and end, what an act leaves of a
+-- connection, and what a look under the lock shows.
+use Rattle.std.specs.Prelude.{◌≡◌, ◌≢◌, true, false, None, List, [], ◌∷◌, ◌++◌, Result, Ok, Err, IfErr, IfOk, IsErrOf}
+use Rattle.std.specs.Prelude.{OnErr, OnOk, is_err, ◌≤◌, ◌+◌, length, ℕ, Option, Some, IsOk}
 use Rattle.ob_types.specs.declared.command.Command.{Command}
 use Rattle.ob_types.specs.declared.command.Command.TheVariants.{Close, FailFlushed, Flush, Write}
 use Rattle.ob_types.specs.declared.message.Message.{Message}
@@ -9,17 +11,19 @@ use Rattle.ob_types.specs.declared.promise.PromiseState.{PromiseState}
 use Rattle.ob_types.specs.declared.refusal.Refusal.{Refusal}
 use Rattle.ob_types.specs.declared.refusal.Refusal.TheVariants.{Closed, NoMemory}
 use Rattle.ob_types.specs.declared.reply.Reply.{Reply}
+use Rattle.ob_seq.specs.Looks.{gathered_after}
+use Rattle.ob_seq.specs.Rows.{Settings}
 use Rattle.ob_seq.specs.State.{closed_after}
-use Rattle.ob_connection.specs.Connected.{Connected, Gives}
+use Rattle.ob_connection.specs.Connected.{Connected, Gives, StandsFor, AreGathered, Refuses}
 use Rattle.ob_connection.specs.Obeying.{GivesUp, IsNext, IsQuiet, Obeys, flushed_reply, taken_reply, written_reply}
 use Rattle.ob_connection.specs.declared.replies.Flushed.{Flushed}
 use Rattle.ob_connection.specs.declared.replies.Taken.{Taken}
 use Rattle.ob_connection.specs.declared.replies.Written.{Written}
-use Rattle.ob_shared_connection.specs.Covers.{IsCovered, PassesRoom, Within, held_by}
-use Rattle.ob_shared_connection.specs.Log.{commands_by}
-use Rattle.ob_shared_connection.specs.Removals.{NoneRemoves}
-use Rattle.ob_shared_connection.specs.Values.{HandleValue, Held, IsLeft, handle_with}
+use Rattle.ob_shared_connection.specs.Values.{IsCovered, PassesRoom, Within, held_by, commands_by, IsBeginning}
+use Rattle.ob_shared_connection.specs.Values.{NoneRemoves, IsWhole, halves, HandleValue, Held, IsLeft, handle_with}
+use Rattle.ob_shared_connection.specs.Values.{IsLeftBy}
 use Rattle.ob_shared_connection.specs.declared.call.Call.{Call}
+use Rattle.ob_shared_connection.specs.declared.ended.Ended.{Ended}
 use Rattle.ob_shared_connection.specs.declared.not_written.NotWritten.{NotWritten}
 use Rattle.ob_shared_connection.specs.declared.not_written.WriteFault.{WriteFault}
 use Rattle.ob_shared_connection.specs.declared.not_written.WriteFault.TheVariants.{Refused, Uncovered}
@@ -166,3 +170,78 @@ pub record GivingUp (cause : Cause) (old : Connected) (result : Result Taken Ref
 -- the commands of giving up
 abbrev pub giving_up : Cause → List Command
 giving_up cause = FailFlushed cause false ∷ Close cause ∷ []
+
+-- the first handle of a connection that was opened with these settings: it is the one that sends, no call was made, and
+-- its share is the whole
+pub record IsFirst (settings : Settings) (handle : HandleValue) : Type 0 where
+  pub settings_are : handle.settings ≡ settings
+  pub sends_first : handle.sends ≡ true
+  pub none_made : handle.mine ≡ []
+  pub none_seen : handle.seen ≡ []
+  pub none_joined : (handle.others ≡ 0) × (handle.handed ≡ 0)
+  pub whole : handle.share ≡ 0 ∷ []
+
+-- another handle of the same connection: it has a number of its own, does not send, has made no call, has seen what the
+-- old one has, and gets half of its share
+abbrev pub IsAnother : HandleValue → HandleValue → Type 0
+IsAnother old other =
+    other
+    ≡ record old { caller = other.caller; sends = false; mine = []; others = 0; handed = 0; share = halves old.share }
+
+-- a handle of which perhaps another one was to get half of the share, and else nothing changed
+abbrev pub IsButForShare : HandleValue → HandleValue → Type 0
+IsButForShare old new = new ≡ record old { share = new.share }
+
+-- a handle took another one in: it stands for both, has the shares of both, and has seen what both had
+pub record IsJoined (old other new : HandleValue) : Type 0 where
+  pub between : List Call
+  pub joins : new ≡ record old {
+    seen = old.seen ++ between;
+    others = old.others + (1 + other.others);
+    handed = old.handed + (length other.mine + other.handed);
+    share = old.share ++ other.share;
+  }
+  pub part : IsBeginning other.seen new.seen
+
+-- the end of a connection: of the list of all calls the handle had seen a beginning, and its own are those of its
+-- number in it; if it is told that nobody had the lock, the connection is what the calls leave, under its cover; at
+-- least as many handles are told as this one stands for, and if they are as many, there are as many calls as were
+-- accepted from those; and if its share is the whole, just those are told, and that nobody had the lock
+pub record IsEnd (handle : HandleValue) (ended : Ended) : Type 0 where
+  pub log : List Call
+  pub part : IsBeginning handle.seen log
+  pub own : handle.mine ≡ commands_by handle.caller log
+  pub left : ended.is_left ≡ true → IsLeftBy handle.settings log ended.connection
+  pub covered : ended.is_left ≡ true → IsCovered handle.budget ended.connection ended.cover
+  pub few : 1 + handle.others ≤ ended.handles
+  pub counted : ended.handles ≡ 1 + handle.others → length log ≡ length handle.mine + handle.handed
+  pub all : IsWhole handle.share → (ended.handles ≡ 1 + handle.others) × (ended.is_left ≡ true)
+
+-- whatever history the old connection stands for, the new one stands for it with these commands, and is opened as it was
+pub record Continues (old : Connected) (commands : List Command) (new : Connected) : Type 0 where
+  pub settings : new.unsent.settings ≡ old.unsent.settings
+  pub stands : (history : List Command) → StandsFor old history → StandsFor new (history ++ commands)
+
+-- a connection that stands for some history, in which it was not closed
+pub record IsOpen (connection : Connected) : Type 0 where
+  pub history : List Command
+  pub stands : StandsFor connection history
+  pub unclosed : closed_after connection.unsent.settings history ≡ false
+
+-- a look shows this of the connection, and nothing changes
+pub record IsLook {A : Type 0} (ShowsOf : Connected → A → Type 0) (answer : A) (old new : Held) : Type 0 where
+  pub shows : ShowsOf old.connected answer
+  pub same : new ≡ old
+
+-- the first refusal of a command, for which no memory is wanted
+pub record RefusesFreely (connected : Connected) (command : Command) (refusal : Option Refusal) : Type 0 where
+  pub first : Refuses connected command refusal
+  pub other : ¬ (refusal ≡ Some NoMemory)
+
+-- blocks that are gathered, unless memory is wanted for them
+pub record Gathers {A : Type 0} (blocks_of : A → List (List ℕ)) (max_count max_bytes : ℕ) (connected : Connected)
+    (result : Result A Refusal) : Type 0 where
+  pub gathered : IfOk result (λ blocks. AreGathered connected max_count max_bytes (blocks_of blocks))
+  pub no_memory : IfErr result (λ refusal. refusal ≡ NoMemory)
+  pub frugal : (commands : List Command) → StandsFor connected commands
+      → gathered_after connected.unsent.settings commands max_count max_bytes ≡ [] → IsOk result

@@ -1,12 +1,19 @@
--- What a call promises of a connection within a budget.
-use Rattle.std.specs.Prelude.{◌≡◌, ◌<◌, ◌⊎◌, ℕ, List, Option, None, Result, Ok, Err, IfErr}
+-- What a call promises of a connection within a budget, and what all connections of a budget hold together.
+use Rattle.std.specs.Prelude.{◌≡◌, ◌<◌, ◌⊎◌, ℕ, List, Option, None, Result, Ok, Err, IfErr, ◌≤◌, map}
+use Rattle.std.specs.List.{All, sum_by}
 use Rattle.ob_types.specs.declared.command.Command.{Command}
+use Rattle.ob_seq.specs.Rows.{Settings}
 use Rattle.ob_connection.specs.Connected.{Connected}
+use Rattle.ob_budget.specs.Bounds.{BoundsValue}
+use Rattle.ob_budget.specs.Ruled.{Keeps}
+use Rattle.ob_budget.specs.declared.account.Account.{Account}
 use Rattle.ob_budget.specs.declared.pressure.Pressure.{Pressure}
+use Rattle.ob_covered.specs.Budgeted.{pending}
 use Rattle.ob_covered.specs.declared.fault.Told.{Told}
 use Rattle.ob_shared_connection.specs.Calls.{IsCall}
-use Rattle.ob_shared_connection.specs.Covers.{AcceptsFirst, HoldsFor, LacksRoom, SparesAtMost, TakesFor, TellsIf, bytes_written, held_by}
-use Rattle.ob_shared_connection.specs.Values.{Held, recovered}
+use Rattle.ob_shared_connection.specs.Values.{AcceptsFirst, HoldsFor, LacksRoom, SparesAtMost, TakesFor, TellsIf}
+use Rattle.ob_shared_connection.specs.Values.{bytes_written, held_by, commands_of, Held, recovered}
+use Rattle.ob_shared_connection.specs.declared.call.Call.{Call}
 use Rattle.ob_shared_connection.specs.declared.over.OverBudget.{OverBudget}
 
 -- nothing changed but the cover
@@ -61,3 +68,23 @@ pub record Settles (quanta : ℕ) (pressure : Option Pressure) (old new : Held) 
 pub record ShowsHeld (held : Option ℕ) (old new : Held) : Type 0 where
   pub held_is : held ≡ held_by old.cover
   pub same : new ≡ old
+
+-- a seat of a budget, what the connection was opened with that it covers, and the calls that this accepted: none, if it
+-- covers none
+pub record Covering : Type 0 where
+  pub account : Account
+  pub settings : Settings
+  pub log : List Call
+
+-- the bytes that are pending after those calls
+abbrev pub pending_under : Covering → ℕ
+pending_under covering = pending covering.settings (commands_of covering.log)
+
+-- whatever the seats of a budget cover, if of no connection more is pending than its seat holds, of all together no
+-- more is pending than the room
+abbrev pub AllWithinRoom : Type 0
+AllWithinRoom =
+    (bounds : BoundsValue) (word : ℕ) (seats : List Covering)
+    → Keeps bounds word (map (λ covering. covering.account) seats)
+    → All (λ covering. pending_under covering ≤ covering.account.held) seats
+    → sum_by pending_under seats ≤ bounds.room

@@ -1,15 +1,18 @@
--- What is read without the lock.
-use Rattle.std.specs.Prelude.{◌≡◌, ℕ, true, List, [], ◌++◌}
+-- What is read without the lock, and what a handle waits for.
+use Rattle.std.specs.Prelude.{◌≡◌, ℕ, true, List, [], ◌++◌, Bool, false, if◌then◌else◌}
 use Rattle.ob_types.specs.Marks.{packed}
+use Rattle.ob_types.specs.declared.command.Command.{Command}
 use Rattle.ob_seq.specs.Effect.{rows_after}
 use Rattle.ob_seq.specs.Rows.{Settings, total}
-use Rattle.ob_seq.specs.State.{word_after}
+use Rattle.ob_seq.specs.State.{word_after, closed_after, empty_after, writable_after}
 use Rattle.ob_connection.specs.Connected.{connection_accepts_all}
-use Rattle.ob_shared_connection.specs.Log.{commands_by, commands_of}
-use Rattle.ob_shared_connection.specs.Removals.{NoneRemoves}
-use Rattle.ob_shared_connection.specs.Values.{HandleValue}
+use Rattle.ob_shared_connection.specs.Values.{commands_by, commands_of, NoneRemoves, HandleValue, Held}
+use Rattle.ob_shared_connection.specs.declared.bell.Waiter.{Waiter}
+use Rattle.ob_shared_connection.specs.declared.bell.Waiter.TheVariants.{Writer, Sender}
 use Rattle.ob_shared_connection.specs.declared.call.Call.{Call}
 use Rattle.ob_shared_connection.specs.declared.glance.Glance.{Glance}
+use Rattle.ob_shared_connection.specs.declared.moment.Moment.{Moment}
+use Rattle.ob_shared_connection.specs.declared.moment.Moment.TheVariants.{Ready, Closed, NotYet}
 
 -- a connection accepts these calls, one after another
 abbrev pub IsLegal : Settings → List Call → Type 0
@@ -37,3 +40,26 @@ pub record IsGlance (old : HandleValue) (glance : Glance) (new : HandleValue) : 
   pub own : old.mine ≡ commands_by old.caller new.seen
   pub others : commands_by old.caller between ≡ []
   pub untouched : old.sends ≡ true → NoneRemoves between
+
+-- what a writer and the transport find after a history: a writer may go on if the connection is writable and open, the
+-- transport if a flushed message is there
+abbrev pub moment_after : Waiter → Settings → List Command → Moment
+moment_after Writer settings commands =
+    if closed_after settings commands then Closed else if writable_after settings commands then Ready else NotYet
+moment_after Sender settings commands =
+    if empty_after settings commands then (if closed_after settings commands then Closed else NotYet) else Ready
+
+-- whether a wait is over, other than by its time
+abbrev pub is_due : Moment → Bool
+is_due Ready = true
+is_due Closed = true
+is_due NotYet = false
+
+-- under the lock this is what one finds who waits
+abbrev pub IsMoment : Waiter → Held → Moment → Type 0
+IsMoment waiter held moment = moment ≡ moment_after waiter held.handle.settings (commands_of held.handle.seen)
+
+-- one waited until the moment came, found it under the lock, and changed nothing
+pub record Waited (waiter : Waiter) (moment : Moment) (before after : Held) : Type 0 where
+  pub finds : IsMoment waiter before moment
+  pub same : after ≡ before

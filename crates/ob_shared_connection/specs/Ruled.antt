@@ -1,27 +1,85 @@
--- What holds of the words, of the connection and of what each seat knows, between any two steps. No public clause cites
--- it.
-use Rattle.std.specs.Prelude.{◌≡◌, ◌≢◌, ◌<◌, ◌≤◌, ◌+◌, ◌^◌, ℕ, Bool, true, false, List, [], ◌∷◌, ◌++◌, length, slice_index, None, option_map}
+-- What holds of the words, of the connection and of what each seat knows, between any two steps: of the bells, of
+-- whoever lets the lock go, and of which table a seat is. No public clause cites it.
+use Rattle.std.specs.Prelude.{ℕ, Bool, true, false, ◌≡◌, ◌≢◌, ◌<◌, ◌≤◌, ◌+◌, ◌^◌, List, [], ◌∷◌, ◌++◌, length}
+use Rattle.std.specs.Prelude.{slice_index, None, option_map}
 use Rattle.std.specs.List.{All, sum_by}
+use Rattle.std.specs.Arc.{arc_value}
 use mathlib.Core.Option.{Option, none, some}
 use lib.ListN.{get_elem?}
-use Rattle.std.specs.Arc.{arc_value}
+use Rattle.atomic_table.specs.Seated.{TableId}
+use Rattle.atomic_table.specs.declared.shared.Seat.{Seat}
 use Rattle.atomic_table.specs.Table.{State}
 use Rattle.ob_types.specs.declared.command.Command.{Command}
+use Rattle.ob_seq.specs.Looks.{look_after}
 use Rattle.ob_seq.specs.Rows.{Settings}
-use Rattle.ob_shared_connection.specs.Bells.{bell_word, is_silent, unheard}
-use Rattle.ob_shared_connection.specs.Covers.{IsCovered, Within, cover_of}
-use Rattle.ob_shared_connection.specs.Glances.{IsLegal, glance_after, packed_glance}
-use Rattle.ob_shared_connection.specs.Log.{IsBeginning, calls_of, commands_by, commands_of}
-use Rattle.ob_shared_connection.specs.Removals.{NoneRemoves}
-use Rattle.ob_shared_connection.specs.Shares.{halves, parts_in}
-use Rattle.ob_shared_connection.specs.Values.{IsLeftBy}
-use Rattle.ob_shared_connection.specs.Waiting.{is_due, moment_after}
+use Rattle.ob_connection.specs.Connected.{Connected, Gives}
+use Rattle.ob_shared_connection.specs.Values.{IsCovered, Within, cover_of, IsBeginning, calls_of, commands_by}
+use Rattle.ob_shared_connection.specs.Values.{commands_of, NoneRemoves, halves, parts_in, IsLeftBy}
+use Rattle.ob_shared_connection.specs.Glances.{IsLegal, glance_after, packed_glance, is_due, moment_after}
 use Rattle.ob_shared_connection.specs.declared.bell.Waiter.{Waiter}
+use Rattle.ob_shared_connection.specs.declared.bell.Waiter.TheVariants.{Writer, Sender}
 use Rattle.ob_shared_connection.specs.declared.call.Call.{Call}
 use Rattle.ob_shared_connection.specs.declared.carried.Carried.{Carried}
+use Rattle.ob_shared_connection.specs.declared.looks.Parting.{Parting}
 use Rattle.ob_shared_connection.specs.declared.rule.Opened.{Opened}
+use Rattle.ob_shared_connection.specs.declared.shared.Shared.{Shared}
 use Rattle.ob_shared_connection.specs.declared.view.Bells.{Bells}
 use Rattle.ob_shared_connection.specs.declared.view.View.{View}
+
+-- the word that is the bell
+abbrev pub bell_word : Waiter → ℕ
+bell_word Writer = 3
+bell_word Sender = 4
+
+-- nothing is known of them, and nothing is owed
+abbrev pub unheard : Bells
+unheard = record { writers_silent = false; writers_owed = false; work_silent = false; work_owed = false }
+
+-- whether it is known that nobody waits at the bell
+abbrev pub is_silent : Waiter → Bells → Bool
+is_silent Writer bells = bells.writers_silent
+is_silent Sender bells = bells.work_silent
+
+-- whether those who waited there are still to be woken
+abbrev pub is_owed : Waiter → Bells → Bool
+is_owed Writer bells = bells.writers_owed
+is_owed Sender bells = bells.work_owed
+
+-- once it was heard that nobody waits there
+abbrev pub silent : Waiter → Bells → Bells
+silent Writer bells = record bells { writers_silent = true }
+silent Sender bells = record bells { work_silent = true }
+
+-- once it was silenced, so that those are owed who waited
+abbrev pub silenced : Waiter → Bells → Bells
+silenced Writer bells = record bells { writers_silent = true; writers_owed = true }
+silenced Sender bells = record bells { work_silent = true; work_owed = true }
+
+-- once someone waits there
+abbrev pub awaited : Waiter → Bells → Bells
+awaited Writer bells = record bells { writers_silent = false }
+awaited Sender bells = record bells { work_silent = false }
+
+-- whatever history the connection stands for, these are the word and the total after it, and whether writers and the
+-- transport may go on
+pub record IsParting (connected : Connected) (parting : Parting) : Type 0 where
+  pub word : Gives connected (λ settings commands. (look_after settings commands).word) parting.word
+  pub total : Gives connected (λ settings commands. (look_after settings commands).total) parting.total
+  pub writers : Gives connected (λ settings commands. is_due (moment_after Writer settings commands)) parting.writers
+  pub work : Gives connected (λ settings commands. is_due (moment_after Sender settings commands)) parting.work
+
+-- the name of a table
+abbrev pub table_of : Shared → TableId
+table_of shared = shared.table.shared.table_id
+
+-- a seat is of this table
+abbrev pub IsSeatOf : Shared → Seat Carried View → Type 0
+IsSeatOf shared seat = seat.table_id ≡ table_of shared
+
+-- it is the same seat, whatever it knows
+pub record IsSameSeat (old new : Seat Carried View) : Type 0 where
+  pub table : new.table_id ≡ old.table_id
+  pub number : new.id ≡ old.id
 
 -- what a seat's connection was opened with
 abbrev pub settings_of : View → Settings

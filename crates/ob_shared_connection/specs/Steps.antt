@@ -1,21 +1,19 @@
--- What a seat is between two steps, and what a step tells it. No public clause cites it.
+-- What a seat is between two steps, what a step tells it, and what a caller is. No public clause cites it.
 use Rattle.std.specs.Prelude.{◌≡◌, ◌≢◌, ◌<◌, ℕ, Bool, true, false, List, [], ◌∷◌, ◌++◌, Option, None}
 use Rattle.atomic_table.specs.Seated.{TableId}
 use Rattle.atomic_table.specs.Table.{Me}
-use Rattle.ob_connection.specs.Connected.{Connected}
 use Rattle.ob_seq.specs.Unsent.{nothing_unsent}
+use Rattle.ob_connection.specs.Connected.{Connected}
 use Rattle.ob_covered.specs.Cover.{CoverValue}
-use Rattle.ob_shared_connection.specs.Bells.{awaited, is_owed, is_silent, silent, unheard}
-use Rattle.ob_shared_connection.specs.Covers.{IsCovered, cover_of}
-use Rattle.ob_shared_connection.specs.Glances.{IsLegal, glance_after, packed_glance}
-use Rattle.ob_shared_connection.specs.Handles.{IsEnd}
-use Rattle.ob_shared_connection.specs.Log.{IsBeginning, commands_by, commands_of}
-use Rattle.ob_shared_connection.specs.Removals.{NoneRemoves}
-use Rattle.ob_shared_connection.specs.Ruled.{hearing_view, held_view, named_view, seeing_view, sending_view, settings_of, shown_view}
+use Rattle.ob_shared_connection.specs.Ruled.{awaited, is_owed, is_silent, silent, unheard, hearing_view, held_view}
+use Rattle.ob_shared_connection.specs.Ruled.{named_view, seeing_view, sending_view, settings_of, shown_view}
+use Rattle.ob_shared_connection.specs.Values.{IsCovered, cover_of, IsBeginning, commands_by, commands_of, NoneRemoves}
 use Rattle.ob_shared_connection.specs.Values.{HandleValue, Held, IsLeftBy}
-use Rattle.ob_shared_connection.specs.Waiting.{is_due, moment_after}
+use Rattle.ob_shared_connection.specs.Glances.{IsLegal, glance_after, packed_glance, is_due, moment_after}
+use Rattle.ob_shared_connection.specs.Calls.{IsEnd}
 use Rattle.ob_shared_connection.specs.declared.bell.Waiter.{Waiter}
 use Rattle.ob_shared_connection.specs.declared.call.Call.{Call}
+use Rattle.ob_shared_connection.specs.declared.caller.Caller.{Caller}
 use Rattle.ob_shared_connection.specs.declared.carried.Carried.{Carried}
 use Rattle.ob_shared_connection.specs.declared.ended.Ended.{Ended}
 use Rattle.ob_shared_connection.specs.declared.view.View.{View}
@@ -173,3 +171,18 @@ pub record Reads (old : Knows) (found : ℕ) (new : Knows) : Type 0 where
 -- the end of a table, as a seat knows it
 abbrev pub IsEndOf : View → Ended → Type 0
 IsEndOf view ended = (table : TableId) → IsEnd (handle_of table view) ended
+
+-- what contracts see of a caller
+abbrev pub caller_handle : Caller → HandleValue
+caller_handle caller = handle_of caller.seat.table_id caller.seat.me.0
+
+abbrev pub caller_held : Caller → Held
+caller_held caller = held_of caller.seat.table_id caller.seat.me
+
+-- a caller does not have the lock
+abbrev pub IsFree : Caller → Type 0
+IsFree caller = Rests caller.seat.me
+
+-- a caller has it
+abbrev pub IsHolder : Caller → Type 0
+IsHolder caller = Holds caller.seat.me

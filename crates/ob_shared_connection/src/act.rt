@@ -1,8 +1,8 @@
 ghost use Rattle.std.specs.Prelude.{◌≡◌, List, IfErr, IsOk, OnErr, OnOk, Result, Some, ℕ};
 ghost use Rattle.ob_types.specs.declared.command.Command.{Command};
 ghost use Rattle.ob_connection.specs.Connected.{Connected};
-ghost use Rattle.ob_shared_connection.specs.Acts.{Continues};
-ghost use Rattle.ob_shared_connection.specs.Covers.{Adds, FitsIn, PassesRoom};
+ghost use Rattle.ob_shared_connection.specs.Calls.{Continues};
+ghost use Rattle.ob_shared_connection.specs.Values.{Adds, FitsIn, PassesRoom};
 
 use ob_connection::Connection;
 

@@ -36,16 +36,12 @@ pub struct Caller {
 
 impl Caller {
     ghost use Rattle.ob_types.specs.Limits.{greatest_overhead, greatest_unknown};
-    ghost use Rattle.ob_shared_connection.specs.Handles.{IsAnother, IsButForShare, IsEnd, IsFirst, IsJoined};
-    ghost use Rattle.ob_shared_connection.specs.Values.{appointed, resigned, sharing};
-    ghost use Rattle.ob_shared_connection.specs.Calls.{IsCall, IsLock, UnderLock};
-    ghost use Rattle.ob_shared_connection.specs.Covers.{budget_of};
+    ghost use Rattle.ob_shared_connection.specs.Calls.{IsAnother, IsButForShare, IsEnd, IsFirst, IsJoined, IsCall};
+    ghost use Rattle.ob_shared_connection.specs.Calls.{IsLock, UnderLock, IsLook};
+    ghost use Rattle.ob_shared_connection.specs.Values.{appointed, resigned, sharing, budget_of, MayGive};
     ghost use Rattle.ob_shared_connection.specs.Ruled.{within_of};
-    ghost use Rattle.ob_shared_connection.specs.Glances.{IsGlance};
-    ghost use Rattle.ob_shared_connection.specs.Looking.{IsLook};
-    ghost use Rattle.ob_shared_connection.specs.Removals.{MayGive};
-    ghost use Rattle.ob_shared_connection.specs.Waiting.{IsMoment, Waited, is_due};
-    ghost use Rattle.ob_shared_connection.specs.Callers.{caller_handle, caller_held, IsFree, IsHolder};
+    ghost use Rattle.ob_shared_connection.specs.Glances.{IsGlance, IsMoment, Waited, is_due};
+    ghost use Rattle.ob_shared_connection.specs.Steps.{caller_handle, caller_held, IsFree, IsHolder};
 
     /// The first caller of a connection with nothing written.
     pub fn open(alloc: Global, marks: WaterMark, estimate: Estimate) -> Result<Caller, Refusal>

@@ -1,7 +1,8 @@
 //! What lies under the lock.
 ghost use Rattle.std.specs.Prelude.{◌≡◌, ◌<◌, IfErr, IfOk, None, OnErr, OnOk};
-ghost use Rattle.ob_shared_connection.specs.Acts.{Continues};
-ghost use Rattle.ob_shared_connection.specs.Covers.{HoldsFor, IsUnder, LacksRoom, PassesRoom, SparesAtMost, TakesFor, TellsIf, cover_of, held_by};
+ghost use Rattle.ob_shared_connection.specs.Calls.{Continues};
+ghost use Rattle.ob_shared_connection.specs.Values.{HoldsFor, IsUnder, LacksRoom, PassesRoom, SparesAtMost, TakesFor};
+ghost use Rattle.ob_shared_connection.specs.Values.{TellsIf, cover_of, held_by};
 
 use crate::act::Act;
 use ob_budget::{Pressure, RaiseFault};

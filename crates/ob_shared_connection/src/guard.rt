@@ -22,7 +22,7 @@ pub struct Guard {
 
 impl Model for Guard {
     ghost use Rattle.ob_shared_connection.specs.Values.{Held};
-    ghost use Rattle.ob_shared_connection.specs.Callers.{IsHolder, caller_held};
+    ghost use Rattle.ob_shared_connection.specs.Steps.{IsHolder, caller_held};
 
     ghost Value = { Held };
 
@@ -33,7 +33,7 @@ impl Model for Guard {
 
 impl Guard {
     ghost use Rattle.ob_shared_connection.specs.Values.{IsLeft};
-    ghost use Rattle.ob_shared_connection.specs.Callers.{IsHolder, caller_held};
+    ghost use Rattle.ob_shared_connection.specs.Steps.{IsHolder, caller_held};
 
     /// A guard of a caller that has the lock.
     pub(crate) fn new(caller: Caller) -> Guard

@@ -1,11 +1,9 @@
 ghost use Rattle.std.specs.Prelude.{◌≡◌, ◌≤◌, true, IfErr, IfOk, IsOkUnless, None, OnErr, OnOk, Some};
 ghost use Rattle.ob_types.specs.Limits.{greatest_overhead, greatest_unknown};
-ghost use Rattle.ob_shared_connection.specs.Calls.{IsLock, UnderLock};
-ghost use Rattle.ob_shared_connection.specs.Glances.{IsGlance};
-ghost use Rattle.ob_shared_connection.specs.Handles.{IsAnother, IsButForShare, IsEnd, IsFirst, IsJoined};
-ghost use Rattle.ob_shared_connection.specs.Log.{commands_by};
-ghost use Rattle.ob_shared_connection.specs.Values.{appointed, sharing};
-ghost use Rattle.ob_shared_connection.specs.Waiting.{IsMoment, is_due};
+ghost use Rattle.ob_shared_connection.specs.Calls.{IsLock, UnderLock, IsAnother, IsButForShare, IsEnd, IsFirst};
+ghost use Rattle.ob_shared_connection.specs.Calls.{IsJoined};
+ghost use Rattle.ob_shared_connection.specs.Glances.{IsGlance, IsMoment, is_due};
+ghost use Rattle.ob_shared_connection.specs.Values.{commands_by, appointed, sharing};
 ghost use Rattle.ob_shared_connection.specs.declared.bell.Waiter.TheVariants as waiter;
 
 mod commands;
@@ -58,7 +56,7 @@ pub struct Handle {
 
 impl Model for Handle {
     ghost use Rattle.ob_shared_connection.specs.Values.{HandleValue};
-    ghost use Rattle.ob_shared_connection.specs.Callers.{IsFree, caller_handle};
+    ghost use Rattle.ob_shared_connection.specs.Steps.{IsFree, caller_handle};
 
     ghost Value = { HandleValue };
 
@@ -68,7 +66,7 @@ impl Model for Handle {
 }
 
 impl Handle {
-    ghost use Rattle.ob_shared_connection.specs.Callers.{IsFree, caller_handle};
+    ghost use Rattle.ob_shared_connection.specs.Steps.{IsFree, caller_handle};
 
     /// The first handle of a connection with nothing written, which is the one that sends. The overhead and the size of
     /// unknown messages are at most 65535 bytes. `NoMemory` comes only if the allocator refuses.

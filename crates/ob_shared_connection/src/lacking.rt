@@ -6,7 +6,7 @@ ghost use Rattle.ob_types.specs.declared.message.Message.{Message};
 ghost use Rattle.ob_types.specs.declared.message.Message.TheVariants.{Block};
 ghost use Rattle.ob_connection.specs.Obeying.{Accepts, joined};
 ghost use Rattle.ob_covered.specs.Budgeted.{IsPending};
-ghost use Rattle.ob_shared_connection.specs.Covers.{CountsAs, FitsIn, Passes, PassesRoom};
+ghost use Rattle.ob_shared_connection.specs.Values.{CountsAs, FitsIn, Passes, PassesRoom};
 
 use ob_connection::{Connection, length_of_parts};
 use ob_types::{Message, pending_size, pending_size_of_length};

@@ -1,8 +1,8 @@
 //! What holds of every list of accepted commands. These laws speak of definitions, and the calls of a handle and of a
 //! transport return what those give.
 
-ghost use Rattle.ob_shared_connection.specs.Room.{AllWithinRoom};
-ghost use Rattle.ob_shared_connection.specs.Staying.{BytesStay};
+ghost use Rattle.ob_shared_connection.specs.Covering.{AllWithinRoom};
+ghost use Rattle.ob_shared_connection.specs.Sending.{BytesStay};
 
 /// What a transport gathered is in front still when it takes the lock again, and any number of those bytes can be taken
 /// away as sent: other handles cannot take flushed messages away, and none can close the connection meanwhile.

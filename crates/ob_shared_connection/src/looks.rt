@@ -4,9 +4,9 @@ ghost use Rattle.ob_types.specs.declared.message.Message.TheVariants.{Block};
 ghost use Rattle.ob_seq.specs.State.{writable_after, empty_after, closed_after};
 ghost use Rattle.ob_connection.specs.Connected.{IsFrontPromise, Refuses, Shows, Tells};
 ghost use Rattle.ob_connection.specs.Connected.{Gives};
-ghost use Rattle.ob_shared_connection.specs.Looking.{Gathers, RefusesFreely};
-ghost use Rattle.ob_shared_connection.specs.Leaving.{IsParting};
-ghost use Rattle.ob_shared_connection.specs.Waiting.{moment_after};
+ghost use Rattle.ob_shared_connection.specs.Calls.{Gathers, RefusesFreely};
+ghost use Rattle.ob_shared_connection.specs.Ruled.{IsParting};
+ghost use Rattle.ob_shared_connection.specs.Glances.{moment_after};
 
 use crate::ask::Ask;
 use crate::bell::{Bell, Work, Writers};

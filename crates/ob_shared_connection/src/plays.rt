@@ -1,9 +1,9 @@
 //! What each kind of step tells the seat that makes it.
 ghost use Rattle.std.specs.Prelude.{◌≡◌};
 ghost use Rattle.atomic_table.specs.Table.{rest};
-ghost use Rattle.ob_shared_connection.specs.Bells.{silenced};
+ghost use Rattle.ob_shared_connection.specs.Ruled.{silenced, free_view, hearing_view, resigned_view, shown_view};
+ghost use Rattle.ob_shared_connection.specs.Ruled.{view_with};
 ghost use Rattle.ob_shared_connection.specs.Steps.{Appoints, Awaits, Finds, Hears, Names, Reads, Tries};
-ghost use Rattle.ob_shared_connection.specs.Ruled.{free_view, hearing_view, resigned_view, shown_view, view_with};
 
 use crate::bell::Bell;
 use crate::carried::Carried;

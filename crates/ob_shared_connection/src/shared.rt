@@ -57,14 +57,14 @@ pub struct Shared {
 
 impl Shared {
     ghost use Rattle.ob_types.specs.Limits.{greatest_overhead, greatest_unknown};
-    ghost use Rattle.ob_shared_connection.specs.Bells.{awaited, is_owed, silenced, silent};
+    ghost use Rattle.ob_shared_connection.specs.Ruled.{awaited, is_owed, silenced, silent, both_views, first_view};
+    ghost use Rattle.ob_shared_connection.specs.Ruled.{free_view, hearing_view, named_view, new_view, resigned_view};
+    ghost use Rattle.ob_shared_connection.specs.Ruled.{sending_view, sharing_view, shown_view, view_with, within_of};
+    ghost use Rattle.ob_shared_connection.specs.Ruled.{IsSeatOf, IsSameSeat};
     ghost use Rattle.ob_shared_connection.specs.declared.bell.Waiter.TheVariants as waiter;
-    ghost use Rattle.ob_shared_connection.specs.Ruled.{both_views, first_view, free_view, hearing_view, named_view, new_view, resigned_view, sending_view, sharing_view, shown_view, view_with, within_of};
-    ghost use Rattle.ob_shared_connection.specs.Covers.{budget_of};
-    ghost use Rattle.ob_shared_connection.specs.Log.{commands_by};
-    ghost use Rattle.ob_shared_connection.specs.Removals.{MayGive};
-    ghost use Rattle.ob_shared_connection.specs.Steps.{HasLock, Hushes, IsEndOf, IsNamed, IsNow, Locks, MayLeave, Reads, Rests};
-    ghost use Rattle.ob_shared_connection.specs.Tables.{IsSeatOf, IsSameSeat};
+    ghost use Rattle.ob_shared_connection.specs.Values.{budget_of, commands_by, MayGive};
+    ghost use Rattle.ob_shared_connection.specs.Steps.{HasLock, Hushes, IsEndOf, IsNamed, IsNow, Locks, MayLeave};
+    ghost use Rattle.ob_shared_connection.specs.Steps.{Reads, Rests};
 
     /// A table with a connection that has nothing written, and its first seat.
     pub fn new(

@@ -1,11 +1,9 @@
 ghost use Rattle.std.specs.Prelude.{◌≡◌, ◌<◌, true, IfErr, IfOk, OnErr, OnOk};
 ghost use Rattle.ob_seq.specs.Effect.{bytes_in};
-ghost use Rattle.ob_shared_connection.specs.Calls.{IsLock, UnderLock};
-ghost use Rattle.ob_shared_connection.specs.Handles.{IsAnother, IsButForShare};
-ghost use Rattle.ob_shared_connection.specs.Looking.{Gathers, IsLook};
-ghost use Rattle.ob_shared_connection.specs.Staying.{AreInFront};
+ghost use Rattle.ob_shared_connection.specs.Calls.{IsLock, UnderLock, IsAnother, IsButForShare, Gathers, IsLook};
+ghost use Rattle.ob_shared_connection.specs.Sending.{AreInFront};
 ghost use Rattle.ob_shared_connection.specs.Values.{resigned, sharing};
-ghost use Rattle.ob_shared_connection.specs.Waiting.{Waited, is_due};
+ghost use Rattle.ob_shared_connection.specs.Glances.{Waited, is_due};
 ghost use Rattle.ob_shared_connection.specs.declared.bell.Waiter.TheVariants as waiter;
 
 mod commands;
@@ -40,7 +38,7 @@ pub struct Transport {
 impl Model for Transport {
     ghost use Rattle.std.specs.Prelude.{◌≡◌, true};
     ghost use Rattle.ob_shared_connection.specs.Values.{HandleValue};
-    ghost use Rattle.ob_shared_connection.specs.Callers.{IsFree, caller_handle};
+    ghost use Rattle.ob_shared_connection.specs.Steps.{IsFree, caller_handle};
 
     ghost Value = { HandleValue };
 
@@ -50,7 +48,7 @@ impl Model for Transport {
 }
 
 impl Transport {
-    ghost use Rattle.ob_shared_connection.specs.Callers.{IsFree, caller_handle};
+    ghost use Rattle.ob_shared_connection.specs.Steps.{IsFree, caller_handle};
 
     /// The transport of a caller that sends, and does not have the lock.
     pub(crate) fn new(caller: Caller) -> Transport

@@ -3,8 +3,8 @@ ghost use Rattle.std.specs.Prelude.{[], ◌∷◌};
 ghost use Rattle.ob_types.specs.declared.command.Command.TheVariants as command;
 ghost use Rattle.ob_types.specs.declared.message.Message.TheVariants.{Block};
 ghost use Rattle.ob_connection.specs.Obeying.{joined};
-ghost use Rattle.ob_shared_connection.specs.Acts.{IsOpen};
-ghost use Rattle.ob_shared_connection.specs.Calls.{ComesBackUncovered, Flushing, IsUncovered, Putting, ThenFlushes, Writing};
+ghost use Rattle.ob_shared_connection.specs.Calls.{IsOpen, ComesBackUncovered, Flushing, IsUncovered, Putting};
+ghost use Rattle.ob_shared_connection.specs.Calls.{ThenFlushes, Writing};
 
 use crate::act::Act;
 use crate::commands::Write;

@@ -1,5 +1,4 @@
-ghost use Rattle.ob_budget.specs.Inside.{IsEnd};
-ghost use Rattle.ob_budget.specs.Told.{IsSeatOf};
+ghost use Rattle.ob_budget.specs.Ruled.{IsEnd, IsSeatOf};
 
 use super::Budget;
 use crate::account::Account;

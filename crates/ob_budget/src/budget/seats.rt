@@ -1,7 +1,7 @@
 //! Seats that are cut in two and made one. No word changes.
 ghost use Rattle.std.specs.Prelude.{◌≡◌, ◌<◌, []};
-ghost use Rattle.ob_budget.specs.Cut.{kept_account, given_account, joined_account};
-ghost use Rattle.ob_budget.specs.Told.{IsSeatOf, IsSameSeat};
+ghost use Rattle.ob_budget.specs.Account.{kept_account, given_account, joined_account};
+ghost use Rattle.ob_budget.specs.Ruled.{IsSeatOf, IsSameSeat};
 
 use super::Budget;
 use crate::account::Account;

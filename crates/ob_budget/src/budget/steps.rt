@@ -1,7 +1,7 @@
 //! One atomic step each, made by the seat that is passed.
 ghost use Rattle.std.specs.Prelude.{◌≡◌, ◌≢◌, ◌≤◌, []};
 ghost use Rattle.ob_budget.specs.Account.{MayFind, most_seats, after_read, after_loss, after_move};
-ghost use Rattle.ob_budget.specs.Told.{IsSeatOf, IsSameSeat, MayMove, glanced};
+ghost use Rattle.ob_budget.specs.Ruled.{IsSeatOf, IsSameSeat, MayMove, glanced};
 
 use super::Budget;
 use crate::account::Account;

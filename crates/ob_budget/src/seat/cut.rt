@@ -1,6 +1,6 @@
 ghost use Rattle.std.specs.Prelude.{◌≡◌, ◌<◌, ◌≤◌, ◌/◌, ◌+◌, IfOk, IsOk, IsErrAnd};
 ghost use Rattle.ob_budget.specs.Calls.{IsJoined};
-ghost use Rattle.ob_budget.specs.Cut.{kept_account, given_account};
+ghost use Rattle.ob_budget.specs.Account.{kept_account, given_account};
 
 use super::Seat;
 use crate::budget::Budget;

@@ -1,6 +1,5 @@
 ghost use Rattle.std.specs.Prelude.{◌≡◌, ◌<◌, ◌≤◌, ◌+◌, IfOk, IsOk, IsErrAnd};
-ghost use Rattle.ob_budget.specs.Account.{most_seats};
-ghost use Rattle.ob_budget.specs.Word.{standing};
+ghost use Rattle.ob_budget.specs.Account.{most_seats, standing};
 
 use super::{MOST_SEATS, Seat};
 use crate::budget::Budget;

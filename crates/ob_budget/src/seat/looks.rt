@@ -1,6 +1,6 @@
 ghost use Rattle.std.specs.Prelude.{◌≡◌, ◌≤◌};
 ghost use Rattle.ob_budget.specs.Calls.{HasLooked};
-ghost use Rattle.ob_budget.specs.Word.{is_pressed, total_of};
+ghost use Rattle.ob_budget.specs.Account.{is_pressed, total_of};
 
 use super::Seat;
 use crate::budget::Budget;

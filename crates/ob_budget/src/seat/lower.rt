@@ -1,6 +1,6 @@
 ghost use Rattle.std.specs.Prelude.{◌≡◌, ◌≤◌, ◌-◌, IfOk, IfErr};
 ghost use Rattle.ob_budget.specs.Calls.{IsMoved, WasBusy};
-ghost use Rattle.ob_budget.specs.Word.{lowered};
+ghost use Rattle.ob_budget.specs.Account.{lowered};
 
 use super::{Seat, TRIES, pause_after};
 use crate::budget::Budget;

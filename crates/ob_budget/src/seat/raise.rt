@@ -1,6 +1,6 @@
 ghost use Rattle.std.specs.Prelude.{◌≡◌, ◌≤◌, ◌+◌, IfOk, IfErr, IsTrue, ◌↔◌};
 ghost use Rattle.ob_budget.specs.Calls.{IsRaised, IsRefused};
-ghost use Rattle.ob_budget.specs.Word.{total_of};
+ghost use Rattle.ob_budget.specs.Account.{total_of};
 
 use super::{Seat, TRIES, pause_after};
 use crate::budget::Budget;

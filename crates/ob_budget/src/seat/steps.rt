@@ -2,7 +2,7 @@
 ghost use Rattle.std.specs.Prelude.{◌≡◌, ◌≢◌, IsTrue, IsFalse};
 ghost use Rattle.ob_budget.specs.Account.{after_loss, after_move};
 ghost use Rattle.ob_budget.specs.Calls.{HasLooked};
-ghost use Rattle.ob_budget.specs.Told.{MayMove, HasLost, IsSound};
+ghost use Rattle.ob_budget.specs.Ruled.{MayMove, HasLost, IsSound};
 
 use super::Seat;
 use crate::budget::Budget;

@@ -4,7 +4,7 @@ ghost use Rattle.std.specs.Prelude.{◌≡◌, ◌≤◌, []};
 ghost use Rattle.ob_types.specs.Limits.{greatest_overhead, greatest_unknown};
 ghost use Rattle.ob_connection.specs.Connected.{StandsFor};
 ghost use Rattle.ob_budget.specs.Calls.{HasLooked};
-ghost use Rattle.ob_budget.specs.Word.{is_pressed, total_of};
+ghost use Rattle.ob_budget.specs.Account.{is_pressed, total_of};
 ghost use Rattle.ob_covered.specs.Cover.{Tells, HoldsAtMost};
 
 use super::Budgeted;

@@ -2,7 +2,7 @@
 
 ghost use Rattle.std.specs.Prelude.{◌≡◌, ◌≤◌, ◌<◌, ◌/◌, IfOk, IsErr, OnErr};
 ghost use Rattle.ob_budget.specs.Calls.{HasLooked};
-ghost use Rattle.ob_budget.specs.Word.{is_pressed, total_of};
+ghost use Rattle.ob_budget.specs.Account.{is_pressed, total_of};
 ghost use Rattle.ob_covered.specs.Cover.{IsFirst, left_of, given_by};
 
 use super::Cover;

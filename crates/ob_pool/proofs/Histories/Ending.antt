@@ -13,8 +13,7 @@ use Rattle.ob_types.specs.declared.command.Command.{Command}
 use Rattle.ob_history.specs.Receipts.{records_of, record_of}
 use Rattle.ob_history.specs.declared.receipt.Receipt.{Receipt}
 use Rattle.ob_history.specs.declared.record.Record.{Record}
-use Rattle.ob_shared.specs.Finish.{HandsInAll}
-use Rattle.ob_shared.specs.Share.{Handed, made_by}
+use Rattle.ob_shared.specs.Calls.{HandsInAll, Handed, made_by}
 use Rattle.ob_pool.specs.Inside.{HaveHandedIn}
 use Rattle.ob_pool.specs.Report.{AreCarriedOut, commands_of, failings_of, is_failing}
 use Rattle.ob_pool.specs.Threads.{failings_in, Work, commands_in, work_from, done_by}

@@ -3,8 +3,7 @@ use Rattle.std.proofs.Common.{◌≡◌, ℕ, Bool, true, false, List, [], ◌�
 use Rattle.std.specs.List.{All}
 use Rattle.std.specs.Prelude.{Some, find, option_map}
 use Rattle.std.proofs.lemmas.List.Elements.{All-cons, All-nil}
-use Rattle.ob_shared.specs.Finish.{first_short, is_short}
-use Rattle.ob_shared.specs.Share.{Handed}
+use Rattle.ob_shared.specs.Calls.{first_short, is_short, Handed}
 
 -- if no caller hands in another number of receipts than it has made records, each hands in as many
 pub none_short : (handed : List Handed) → ((caller : ℕ) → ¬ (first_short handed ≡ Some caller)) →

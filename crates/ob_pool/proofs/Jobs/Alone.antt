@@ -5,7 +5,7 @@ use Rattle.std.specs.Prelude.{Vec, vec_len}
 use Rattle.std.proofs.lemmas.List.{length_push}
 use Rattle.std.proofs.lemmas.List.Elements.{All-contains, Contains-push}
 use Rattle.std.proofs.lemmas.List.Sums.{sum_by_push}
-use Rattle.ob_shared.specs.Share.{Handed}
+use Rattle.ob_shared.specs.Calls.{Handed}
 use Rattle.ob_pool.specs.Threads.{AreDone, Job, asked, done_by, room_for}
 
 -- what holds of all jobs holds of the last

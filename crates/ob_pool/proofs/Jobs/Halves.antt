@@ -9,7 +9,7 @@ use Rattle.ob_lanes.proofs.HeldBits.{none_held}
 use Rattle.std.proofs.lemmas.List.{map-append, take-append-drop}
 use Rattle.std.proofs.lemmas.List.Elements.{All-drop, All-take}
 use Rattle.std.specs.List.{All}
-use Rattle.ob_shared.specs.Share.{Handed}
+use Rattle.ob_shared.specs.Calls.{Handed}
 use Rattle.std.proofs.lemmas.List.Sums.{sum_by-take-drop}
 use Rattle.ob_pool.specs.Threads.{AreDone, Job, asked, done_by, room_for}
 

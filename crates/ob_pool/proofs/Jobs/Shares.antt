@@ -10,7 +10,7 @@ use Rattle.ob_types.specs.declared.command.Command.{Command}
 use Rattle.ob_types.specs.declared.estimate.Estimate.{Estimate}
 use Rattle.ob_pool.specs.Drive.{room_of, rooms_of}
 use Rattle.ob_pool.specs.Threads.{Work, Job, IsNumbered, IsRoomy, asked, work_from, room_for}
-use Rattle.ob_shared.specs.Share.{Maker, new_maker, ShareValue, new_share, new_shares}
+use Rattle.ob_shared.specs.Calls.{Maker, new_maker, ShareValue, new_share, new_shares}
 
 -- new shares without the last are those of the writers, and the last is the next caller's
 pub last_share : (writers callers : ℕ) (shares first : List ShareValue) (last : ShareValue) → shares ≡ new_shares callers →

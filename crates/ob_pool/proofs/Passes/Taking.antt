@@ -17,7 +17,7 @@ use Rattle.ob_history.specs.History.{accepted_commands, IsBeginning, History, Is
 use Rattle.ob_history.specs.Receipts.{receipts_since, records_of, receipt_of, record_of}
 use Rattle.ob_history.specs.declared.receipt.Receipt.{Receipt}
 use Rattle.ob_history.specs.declared.record.Record.{Record}
-use Rattle.ob_shared.specs.Share.{Handed, Maker, ShareValue}
+use Rattle.ob_shared.specs.Calls.{Handed, Maker, ShareValue}
 use Rattle.ob_transport.specs.Pass.{GrowAlike, standing}
 use Rattle.ob_transport.specs.Sent.{Sent, nothing, sent_by, sent_bytes, sent_in, sent_units}
 use Rattle.ob_transport.specs.Sink.{Content}

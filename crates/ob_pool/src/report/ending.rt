@@ -3,9 +3,7 @@
 ghost use Rattle.std.specs.List.{All};
 ghost use Rattle.std.specs.Prelude.{◌≡◌, ◌≤◌, ◌++◌, [], ◌∷◌, length, IfErr, IfOk};
 ghost use Rattle.ob_history.specs.History.{IsBeginning};
-ghost use Rattle.ob_shared.specs.Finish.{HandsInAll};
-ghost use Rattle.ob_shared.specs.Opened.{IsAsOpened};
-ghost use Rattle.ob_shared.specs.Share.{made_by};
+ghost use Rattle.ob_shared.specs.Calls.{HandsInAll, IsAsOpened, made_by};
 ghost use Rattle.ob_pool.specs.Drive.{ComesOfWork};
 ghost use Rattle.ob_pool.specs.Inside.{TellsEnd};
 

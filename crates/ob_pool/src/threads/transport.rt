@@ -1,7 +1,7 @@
 //! The transport, which takes the desk for one pass at a time.
 
 ghost use Rattle.std.specs.Prelude.{◌≡◌, ◌+◌, ◌++◌, Ok, IfErr, IfOk, IsOkAnd};
-ghost use Rattle.ob_shared.specs.Opened.{IsAsOpened};
+ghost use Rattle.ob_shared.specs.Calls.{IsAsOpened};
 ghost use Rattle.ob_transport.specs.Pass.{GrowAlike, MayOffer, standing};
 ghost use Rattle.ob_transport.specs.Sink.{Content};
 ghost use Rattle.ob_pool.specs.Drive.{ComesOfWork};

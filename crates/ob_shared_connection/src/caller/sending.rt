@@ -2,7 +2,7 @@
 
 ghost use Rattle.std.specs.Prelude.{◌≡◌, true};
 ghost use Rattle.ob_types.specs.declared.command.Command.TheVariants.{RemoveBytes};
-ghost use Rattle.ob_shared_connection.specs.Callers.{IsHolder, caller_handle, caller_held};
+ghost use Rattle.ob_shared_connection.specs.Steps.{IsHolder, caller_handle, caller_held};
 ghost use Rattle.ob_shared_connection.specs.Sending.{Accepts, Offering, TakesAway};
 
 use crate::caller::Caller;

@@ -1,11 +1,10 @@
 //! What a caller does to a connection within a budget: under the lock, and with the lock taken for it.
 
 ghost use Rattle.std.specs.Prelude.{◌≡◌, ◌<◌, IfErr, IfOk, IfSome, None, OnErr, OnOk};
-ghost use Rattle.ob_shared_connection.specs.Callers.{IsFree, IsHolder, caller_handle, caller_held};
+ghost use Rattle.ob_shared_connection.specs.Steps.{IsFree, IsHolder, caller_handle, caller_held};
 ghost use Rattle.ob_shared_connection.specs.Calls.{UnderLock};
 ghost use Rattle.ob_shared_connection.specs.Covering.{ActsWithin, IsRecovered, Settles, ShowsHeld};
-ghost use Rattle.ob_shared_connection.specs.Covers.{Adds, HoldsFor, LacksRoom, TakesFor, TellsIf};
-ghost use Rattle.ob_shared_connection.specs.Removals.{MayGive};
+ghost use Rattle.ob_shared_connection.specs.Values.{Adds, HoldsFor, LacksRoom, TakesFor, TellsIf, MayGive};
 
 use crate::act::Act;
 use crate::caller::Caller;

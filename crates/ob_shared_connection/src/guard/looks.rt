@@ -1,5 +1,5 @@
 //! The looks, under the lock.
-ghost use Rattle.ob_shared_connection.specs.Looking.{IsLook};
+ghost use Rattle.ob_shared_connection.specs.Calls.{IsLook};
 
 use crate::ask::Ask;
 use crate::guard::Guard;

@@ -1,6 +1,6 @@
 //! The calls of a connection within a budget, under the lock.
 ghost use Rattle.ob_shared_connection.specs.Covering.{ActsWithin, Settles, ShowsHeld};
-ghost use Rattle.ob_shared_connection.specs.Removals.{MayGive};
+ghost use Rattle.ob_shared_connection.specs.Values.{MayGive};
 
 use crate::act::Act;
 use crate::guard::Guard;

@@ -1,6 +1,5 @@
 //! The looks, each of which takes the lock.
-ghost use Rattle.ob_shared_connection.specs.Calls.{UnderLock};
-ghost use Rattle.ob_shared_connection.specs.Looking.{IsLook};
+ghost use Rattle.ob_shared_connection.specs.Calls.{UnderLock, IsLook};
 
 use crate::ask::Ask;
 use crate::handle::Handle;

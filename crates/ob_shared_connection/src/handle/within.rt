@@ -2,7 +2,7 @@
 ghost use Rattle.std.specs.Prelude.{◌≡◌, IfErr, IfOk, IfSome, IsOk, None, OnErr};
 ghost use Rattle.ob_shared_connection.specs.Calls.{UnderLock};
 ghost use Rattle.ob_shared_connection.specs.Covering.{ActsWithin, Settles, ShowsHeld};
-ghost use Rattle.ob_shared_connection.specs.Removals.{MayGive};
+ghost use Rattle.ob_shared_connection.specs.Values.{MayGive};
 
 use crate::act::Act;
 use crate::handle::Handle;

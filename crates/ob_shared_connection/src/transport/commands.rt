@@ -3,9 +3,9 @@ ghost use Rattle.std.specs.Prelude.{◌≡◌, false, IsOk};
 ghost use Rattle.ob_types.specs.declared.command.Command.TheVariants as command;
 ghost use Rattle.ob_types.specs.declared.promise.Outcome.TheVariants.{Success, Failed};
 ghost use Rattle.ob_connection.specs.Obeying.{removed_reply};
-ghost use Rattle.ob_shared_connection.specs.Calls.{AlwaysCovered, GivingUp, IsCall, Makes, ObeyingFreely, Taking, TakingQuietly};
-ghost use Rattle.ob_shared_connection.specs.Calls.{UnderLock, giving_up};
-ghost use Rattle.ob_shared_connection.specs.Staying.{AreInFront};
+ghost use Rattle.ob_shared_connection.specs.Calls.{AlwaysCovered, GivingUp, IsCall, Makes, ObeyingFreely, Taking};
+ghost use Rattle.ob_shared_connection.specs.Calls.{TakingQuietly, UnderLock, giving_up};
+ghost use Rattle.ob_shared_connection.specs.Sending.{AreInFront};
 
 use crate::commands;
 use crate::transport::Transport;

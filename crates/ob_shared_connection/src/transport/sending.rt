@@ -5,8 +5,7 @@ ghost use Rattle.std.specs.Io.Slices.{io_slice_bytes};
 ghost use Rattle.std.specs.Prelude.{◌≡◌, ◌≤◌, ◌==◌, length, map, take, IfErr, IfOk, Some};
 ghost use Rattle.ob_connection.specs.Calls.{bytes_of, had_no_room, most_pieces};
 ghost use Rattle.ob_shared_connection.specs.Calls.{UnderLock};
-ghost use Rattle.ob_shared_connection.specs.Sending.{Asked, IsOfBroken, Offering, SendsOnce, TakesAway};
-ghost use Rattle.ob_shared_connection.specs.Staying.{AreInFront};
+ghost use Rattle.ob_shared_connection.specs.Sending.{Asked, IsOfBroken, Offering, SendsOnce, TakesAway, AreInFront};
 
 use crate::offered::{MOST_PIECES, Offered};
 use crate::patience::Patience;

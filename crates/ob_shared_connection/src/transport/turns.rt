@@ -2,7 +2,7 @@
 
 ghost use Rattle.std.specs.Prelude.{◌≡◌, List, [], ◌∷◌, ◌++◌};
 ghost use Rattle.ob_connection.specs.declared.connection.sending.Sent.{Sent};
-ghost use Rattle.ob_shared_connection.specs.Turns.{EndsWith, Reports, SendsInTurns, ended_by};
+ghost use Rattle.ob_shared_connection.specs.Sending.{EndsWith, Reports, SendsInTurns, ended_by};
 
 use crate::offered::MOST_PIECES;
 use crate::transport::{SendFault, Transport};

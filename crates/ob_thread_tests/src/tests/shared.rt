@@ -1,6 +1,6 @@
 //! A shared buffer, whose callers make their calls in turn, and in threads of their own.
 
-ghost use Rattle.ob_shared.specs.Opened.{IsNameOf};
+ghost use Rattle.ob_shared.specs.Calls.{IsNameOf};
 
 use crate::tests::changes::Aside;
 use crate::tests::crew::Crew;

@@ -1,7 +1,7 @@
 //! The transport: passes over a recorded buffer of one thread, and over a desk that is lent.
 
 ghost use Rattle.ob_transport.specs.Pass.{MayOffer};
-ghost use Rattle.ob_shared.specs.Opened.{IsNameOf};
+ghost use Rattle.ob_shared.specs.Calls.{IsNameOf};
 
 use crate::tests::host::Host;
 use crate::tests::keeping_buffers::{Keeping, Scarce};

@@ -1,6 +1,6 @@
 use Rattle.std.proofs.Common.{◌≡◌, ◌∷◌, drop, length, take, ap, ◌∙◌, arith, rules}
 use Rattle.std.specs.Prelude.{slice_index_or, vec_capacity, vec_len}
-use Rattle.ob_shared.specs.Share.{ShareValue}
+use Rattle.ob_shared.specs.Calls.{ShareValue}
 use Rattle.ob_pool.proofs.Jobs.Shares.{asked_more, next_share, roomy_more, rooms_more}
 use Rattle.ob_pool.proofs.Jobs.Steps.{place_next}
 use Rattle.ob_pool.proofs.Plans.Rooms.{next_room}

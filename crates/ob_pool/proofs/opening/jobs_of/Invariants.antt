@@ -1,7 +1,7 @@
 use Rattle.std.proofs.Common.{◌≡◌, ◌+◌, ◌≤◌, ◌++◌, drop, length, map, take}
 use Rattle.std.specs.Prelude.{vec_capacity, vec_len}
 use Rattle.std.specs.List.{All, range_with_len}
-use Rattle.ob_shared.specs.Share.{new_share}
+use Rattle.ob_shared.specs.Calls.{new_share}
 use Rattle.ob_pool.specs.Drive.{room_of, rooms_of}
 use Rattle.ob_pool.specs.Threads.{IsRoomy, asked, work_from, room_for}
 use Rattle.ob_pool.proofs.opening.jobs_of.Given as goal

@@ -2,8 +2,7 @@ use Rattle.std.proofs.Common.{refl, sym, ap, ◌∙◌, subst, arith}
 use Rattle.std.specs.List.{All}
 use Rattle.std.proofs.lemmas.List.Elements.{All-more}
 use Rattle.ob_history.proofs.First.{up_to_end}
-use Rattle.ob_shared.specs.Finish.{StandsIn, IsForeign}
-use Rattle.ob_shared.specs.Share.{Handed}
+use Rattle.ob_shared.specs.Calls.{StandsIn, IsForeign, Handed}
 use Rattle.ob_shared.proofs.Finishing.{foreign_of_all}
 use Rattle.ob_shared.proofs.finish.first_foreign.Goals as goal
 

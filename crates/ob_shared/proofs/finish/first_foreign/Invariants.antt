@@ -1,6 +1,6 @@
 use Rattle.std.proofs.Common.{take}
 use Rattle.std.specs.List.{All}
-use Rattle.ob_shared.specs.Finish.{StandsIn}
+use Rattle.ob_shared.specs.Calls.{StandsIn}
 use Rattle.ob_shared.proofs.finish.first_foreign.Given as goal
 
 abbrev pub invariant-loop-done : goal.invariant-loop-done

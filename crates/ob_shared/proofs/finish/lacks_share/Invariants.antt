@@ -1,5 +1,5 @@
 use Rattle.std.proofs.Common.{◌≡◌, ℕ, ◌<◌, true}
-use Rattle.ob_shared.specs.Share.{has_handed_in}
+use Rattle.ob_shared.specs.Calls.{has_handed_in}
 use Rattle.ob_shared.proofs.finish.lacks_share.Given as goal
 
 abbrev pub invariant-loop-caller : goal.invariant-loop-caller

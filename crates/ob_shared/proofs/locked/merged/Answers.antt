@@ -3,8 +3,7 @@ use Rattle.std.specs.List.{All}
 use Rattle.std.proofs.lemmas.List.Elements.{All-cons}
 use Rattle.std.proofs.lemmas.List.Sums.{sum_by-cons}
 use Rattle.ob_history.specs.History.{IsBeginning}
-use Rattle.ob_shared.specs.Share.{Handed, made_by}
-use Rattle.ob_shared.specs.Sight.{Sight}
+use Rattle.ob_shared.specs.Calls.{Handed, made_by, Sight}
 use Rattle.ob_shared.proofs.locked.merged.Goals as goal
 
 pub loop-done-preserved : goal.loop-done-preserved

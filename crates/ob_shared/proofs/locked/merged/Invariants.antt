@@ -1,7 +1,7 @@
 use Rattle.std.proofs.Common.{◌≡◌, ◌+◌, ◌≤◌, length}
 use Rattle.std.specs.List.{All}
 use Rattle.ob_history.specs.History.{IsBeginning}
-use Rattle.ob_shared.specs.Share.{Handed, made_by}
+use Rattle.ob_shared.specs.Calls.{Handed, made_by}
 use Rattle.ob_shared.proofs.locked.merged.Given as goal
 
 abbrev pub invariant-loop-done : goal.invariant-loop-done

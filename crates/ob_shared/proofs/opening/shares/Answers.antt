@@ -1,6 +1,6 @@
 use Rattle.std.proofs.Common.{sym, ◌∙◌, arith}
 use Rattle.std.proofs.lemmas.List.FromFn.{map-range_with_len_more}
-use Rattle.ob_shared.specs.Share.{new_share}
+use Rattle.ob_shared.specs.Calls.{new_share}
 use Rattle.ob_shared.proofs.opening.shares.Goals as goal
 
 pub loop-caller-preserved : goal.loop-caller-preserved

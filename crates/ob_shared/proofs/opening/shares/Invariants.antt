@@ -1,6 +1,6 @@
 use Rattle.std.proofs.Common.{◌≡◌, ◌+◌, ◌≤◌, vec_capacity}
 use Rattle.std.proofs.Common.{[]}
-use Rattle.ob_shared.specs.Share.{new_shares}
+use Rattle.ob_shared.specs.Calls.{new_shares}
 use Rattle.ob_shared.proofs.opening.shares.Given as goal
 
 abbrev pub invariant-loop-caller : goal.invariant-loop-caller

@@ -1,5 +1,5 @@
 use Rattle.std.proofs.Common.{◌≡◌, ℕ, zero, suc, ◌<◌, [], ◌∷◌, get_or, refl, arith}
-use Rattle.ob_shared.specs.Share.{Handed}
+use Rattle.ob_shared.specs.Calls.{Handed}
 use Rattle.ob_shared.specs.Worked.{whole_writer}
 use Rattle.ob_shared.proofs.worked.worked_ends.Goals as goal
 

@@ -4,8 +4,7 @@ use Rattle.ob_history.specs.History.{IsFirstBreak}
 use Rattle.ob_history.specs.Receipts.{AreOwn, IsReceiptIn, receipt_of, record_of}
 use Rattle.ob_history.specs.Seen.{IsSeenIn}
 use Rattle.ob_history.specs.declared.record.Record.{Record}
-use Rattle.ob_shared.specs.Finish.{StandsIn}
-use Rattle.ob_shared.specs.Share.{Handed}
+use Rattle.ob_shared.specs.Calls.{StandsIn, Handed}
 use Rattle.ob_shared.specs.Worked.{closed, flushed, flusher, look, records, removed, settings, whole_writer, writer, written}
 use Rattle.ob_shared.proofs.Finishing.{foreign_of_all, foreign_receipt, foreign_seen, foreign_told}
 use Rattle.ob_shared.proofs.worked.worked_foreign_items.Goals as goal

@@ -1,6 +1,6 @@
 use Rattle.std.proofs.Common.{ℕ, ◌∷◌, [], Option, sym, subst}
 use Rattle.ob_types.specs.declared.command.Command.TheVariants.{Write}
-use Rattle.ob_shared_connection.specs.Covers.{PassesRoom}
+use Rattle.ob_shared_connection.specs.Values.{PassesRoom}
 use Rattle.ob_shared_connection.proofs.Accepting.{passes_room}
 use Rattle.ob_shared_connection.proofs.lacking.room_lacks_block.Goals as goal
 

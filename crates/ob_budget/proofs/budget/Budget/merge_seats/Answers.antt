@@ -1,6 +1,6 @@
 use Rattle.std.proofs.Common.{sym, subst, arith}
 use Rattle.atomic_table.specs.Table.{Joins}
-use Rattle.ob_budget.specs.Cut.{joined_account, spent_account}
+use Rattle.ob_budget.specs.Account.{joined_account, spent_account}
 use Rattle.ob_budget.specs.Ruled.{Ruled}
 use Rattle.ob_budget.proofs.Seats.{may-merge}
 use Rattle.ob_budget.proofs.budget.Budget.merge_seats.Goals as goal

@@ -1,9 +1,8 @@
 use Rattle.std.proofs.Common.{◌≡◌, ◌≤◌, ◌∙◌, ℕ, sym, ap, subst, arith, refl}
-use Rattle.ob_budget.specs.Account.{after_move}
+use Rattle.ob_budget.specs.Account.{after_move, lowered}
 use Rattle.ob_budget.specs.Bounds.{BoundsValue}
 use Rattle.ob_budget.specs.Calls.{HasTried}
-use Rattle.ob_budget.specs.Told.{MayMove}
-use Rattle.ob_budget.specs.Word.{lowered}
+use Rattle.ob_budget.specs.Ruled.{MayMove}
 use Rattle.ob_budget.proofs.Tries.{won, may_lower, lower_held}
 use Rattle.ob_budget.proofs.seat.Seat.lower.Goals as goal
 use Rattle.ob_budget.proofs.seat.Seat.lower.Goals.{After-lowered-next, After-tries}

@@ -1,8 +1,6 @@
 use Rattle.std.proofs.Common.{◌≡◌, ◌<◌, ◌+◌, ◌∙◌, ℕ, sym, ap, subst, arith, refl}
-use Rattle.ob_budget.specs.Account.{after_move}
+use Rattle.ob_budget.specs.Account.{after_move, SeatValue, total_of, raised}
 use Rattle.ob_budget.specs.Bounds.{BoundsValue}
-use Rattle.ob_budget.specs.Values.{SeatValue}
-use Rattle.ob_budget.specs.Word.{total_of, raised}
 use Rattle.ob_budget.proofs.Tries.{IsTrying, begun, looked_begun, looked_stepped, won_raise}
 use Rattle.ob_budget.proofs.seat.Seat.raise.Goals as goal
 use Rattle.ob_budget.proofs.seat.Seat.raise.Goals.{After-raised-next, then-not-has_room, else-not-has_room}

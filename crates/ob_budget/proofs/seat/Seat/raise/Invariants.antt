@@ -1,5 +1,5 @@
 use Rattle.std.proofs.Common.{◌+◌, ◌<◌}
-use Rattle.ob_budget.specs.Word.{total_of}
+use Rattle.ob_budget.specs.Account.{total_of}
 use Rattle.ob_budget.proofs.Tries.{IsTrying}
 use Rattle.ob_budget.proofs.seat.Seat.raise.Given as goal
 

@@ -1,6 +1,6 @@
 use Rattle.std.proofs.Common.{◌≡◌, ◌++◌, [], ◌∷◌, length, ap, subst, ◌∙◌}
 use Rattle.std.specs.List.{All}
-use Rattle.ob_shared.specs.Share.{Handed}
+use Rattle.ob_shared.specs.Calls.{Handed}
 use Rattle.ob_pool.proofs.Histories.Receipts.{none_short}
 use Rattle.ob_pool.proofs.report.ending.finished.Goals as goal
 

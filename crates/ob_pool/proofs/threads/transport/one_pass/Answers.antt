@@ -4,7 +4,7 @@ use Rattle.ob_seq.specs.Rows.{Settings}
 use Rattle.ob_history.specs.History.{IsLegal}
 use Rattle.ob_history.specs.Receipts.{receipt_of}
 use Rattle.ob_history.specs.declared.seen.Seen.{Seen}
-use Rattle.ob_shared.specs.Share.{ShareValue}
+use Rattle.ob_shared.specs.Calls.{ShareValue}
 use Rattle.ob_pool.specs.Threads.{HasTakenOf}
 use Rattle.ob_pool.proofs.Passes.Taking.{failings_since, if_kept, kept_of_pass, pass_taken}
 use Rattle.ob_pool.proofs.threads.transport.one_pass.Goals as goal

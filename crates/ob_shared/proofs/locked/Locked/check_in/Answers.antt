@@ -4,7 +4,7 @@ use Rattle.ob_seq.specs.Rows.{Settings}
 use Rattle.ob_history.specs.History.{accepted_commands, IsBeginning, IsLegal}
 use Rattle.ob_history.specs.declared.record.Record.{Record}
 use Rattle.ob_history.specs.declared.seen.Seen.{Seen}
-use Rattle.ob_shared.specs.Sight.{IsCheckIn, Sight, sight_of}
+use Rattle.ob_shared.specs.Calls.{IsCheckIn, Sight, sight_of}
 use Rattle.ob_shared.proofs.locked.Locked.check_in.Goals as goal
 
 pub returns-clause-checked_in : goal.returns-clause-checked_in

@@ -1,7 +1,7 @@
 use Rattle.std.proofs.Common.{refl, subst, rules}
 use Rattle.std.specs.List.{All}
 use Rattle.ob_history.specs.History.{History}
-use Rattle.ob_shared.specs.Finish.{StandsIn}
+use Rattle.ob_shared.specs.Calls.{StandsIn}
 use Rattle.ob_shared.proofs.locked.Locked.fault.Goals as goal
 
 pub returns-in-Ok-None-clause-stands : goal.returns-in-Ok-None-clause-stands

@@ -1,7 +1,7 @@
 use Rattle.std.proofs.Common.{◌≡◌, ◌≤◌, length, sym, subst, arith}
 use Rattle.std.specs.List.{All}
 use Rattle.ob_history.specs.History.{History}
-use Rattle.ob_shared.specs.Finish.{StandsIn}
+use Rattle.ob_shared.specs.Calls.{StandsIn}
 use Rattle.ob_shared.proofs.Finishing.{all_is_handed_in}
 use Rattle.ob_shared.proofs.HandedIn.{as_many_as_callers}
 use Rattle.ob_shared.proofs.locked.Locked.into_recorded.Goals as goal

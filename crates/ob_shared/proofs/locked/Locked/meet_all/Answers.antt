@@ -4,8 +4,7 @@ use Rattle.std.proofs.lemmas.List.Edits.{map_over_more}
 use Rattle.std.proofs.lemmas.List.Elements.{All-more}
 use Rattle.ob_history.specs.History.{IsBeginning, History}
 use Rattle.ob_history.specs.declared.record.Record.{Record}
-use Rattle.ob_shared.specs.Finish.{after_meeting}
-use Rattle.ob_shared.specs.Share.{Handed}
+use Rattle.ob_shared.specs.Calls.{after_meeting, Handed}
 use Rattle.ob_shared.proofs.locked.Locked.meet_all.Goals as goal
 
 -- past a beginning that was mapped a list has what it had

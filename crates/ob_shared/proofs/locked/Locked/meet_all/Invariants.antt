@@ -1,8 +1,7 @@
 use Rattle.std.proofs.Common.{◌≡◌, ◌++◌, drop, map, take}
 use Rattle.std.specs.List.{All}
 use Rattle.ob_history.specs.History.{IsBeginning}
-use Rattle.ob_shared.specs.Finish.{after_meeting}
-use Rattle.ob_shared.specs.Share.{Handed}
+use Rattle.ob_shared.specs.Calls.{after_meeting, Handed}
 use Rattle.ob_shared.proofs.locked.Locked.meet_all.Given as goal
 
 abbrev pub invariant-loop-done : goal.invariant-loop-done

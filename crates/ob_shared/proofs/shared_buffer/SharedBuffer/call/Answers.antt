@@ -7,9 +7,7 @@ use Rattle.ob_history.specs.History.{IsBeginning, History}
 use Rattle.ob_history.specs.declared.record.Record.{Record}
 use Rattle.ob_history.proofs.Beginnings.{begins_further}
 use Rattle.ob_history.proofs.Calls.{called_begins}
-use Rattle.ob_shared.specs.Calls.{with_record_of}
-use Rattle.ob_shared.specs.Share.{Handed, ShareValue}
-use Rattle.ob_shared.specs.Sight.{sight_of}
+use Rattle.ob_shared.specs.Calls.{with_record_of, Handed, ShareValue, sight_of}
 use Rattle.ob_shared.proofs.Calling.{keeps_nothing, keeps_record, now_with}
 use Rattle.ob_shared.proofs.shared_buffer.SharedBuffer.call.Given.{Over}
 use Rattle.ob_shared.proofs.shared_buffer.SharedBuffer.call.Goals as goal

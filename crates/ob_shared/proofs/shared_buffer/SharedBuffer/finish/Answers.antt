@@ -4,8 +4,7 @@ use Rattle.std.proofs.lemmas.List.{drop_all, take_all}
 use Rattle.ob_history.specs.History.{IsBeginning, History}
 use Rattle.ob_history.specs.Seen.{settlements_in}
 use Rattle.ob_seq.specs.Pending.{times_settled}
-use Rattle.ob_shared.specs.Finish.{StandsIn, first_short, IsForeign, after_meeting}
-use Rattle.ob_shared.specs.Share.{Handed}
+use Rattle.ob_shared.specs.Calls.{StandsIn, first_short, IsForeign, after_meeting, Handed}
 use Rattle.ob_shared.proofs.shared_buffer.SharedBuffer.finish.Goals as goal
 
 -- a list that was written over as long as it was is what was written

@@ -4,7 +4,7 @@ use Rattle.ob_history.specs.History.{IsBeginning, IsLegal}
 use Rattle.ob_history.specs.Seen.{glance_after}
 use Rattle.ob_history.specs.declared.record.Record.{Record}
 use Rattle.ob_shared.specs.Published.{publishing}
-use Rattle.ob_shared.specs.Sight.{packed_glance}
+use Rattle.ob_shared.specs.Calls.{packed_glance}
 use Rattle.ob_shared.proofs.Publishing.{may_keep, may_publish}
 use Rattle.ob_shared.proofs.words.Words.publish.Goals as goal
 

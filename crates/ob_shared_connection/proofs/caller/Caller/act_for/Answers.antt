@@ -3,9 +3,8 @@ use Rattle.atomic_table.specs.Seated.{TableId}
 use Rattle.atomic_table.specs.Table.{rest}
 use Rattle.ob_types.specs.declared.command.Command.{Command}
 use Rattle.ob_shared_connection.specs.Calls.{IsCall}
-use Rattle.ob_shared_connection.specs.Ruled.{view_with}
+use Rattle.ob_shared_connection.specs.Ruled.{view_with, table_of}
 use Rattle.ob_shared_connection.specs.Steps.{Holds, Knows, carried_in, held_of}
-use Rattle.ob_shared_connection.specs.Tables.{table_of}
 use Rattle.ob_shared_connection.proofs.Told.{covered_still, is_call, next, still_holds, under_now}
 use Rattle.ob_shared_connection.proofs.caller.Caller.act_for.Goals as goal
 

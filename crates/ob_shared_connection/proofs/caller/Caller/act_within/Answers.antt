@@ -1,8 +1,7 @@
 use Rattle.std.proofs.Common.{◌≡◌, sym, ap, ◌∙◌, subst, rules}
 use Rattle.ob_connection.specs.Connected.{Connected}
-use Rattle.ob_shared_connection.specs.Callers.{caller_held}
-use Rattle.ob_shared_connection.specs.Covers.{Adds, HoldsFor}
-use Rattle.ob_shared_connection.specs.Values.{Held}
+use Rattle.ob_shared_connection.specs.Steps.{caller_held}
+use Rattle.ob_shared_connection.specs.Values.{Adds, HoldsFor, Held}
 use Rattle.ob_shared_connection.proofs.Accepting.{always_covers}
 use Rattle.ob_shared_connection.proofs.caller.Caller.act_within.Goals as goal
 

@@ -1,5 +1,5 @@
 use Rattle.std.proofs.Common.{sym, ap, ◌∙◌}
-use Rattle.ob_shared_connection.specs.Bells.{is_owed}
+use Rattle.ob_shared_connection.specs.Ruled.{is_owed}
 use Rattle.ob_shared_connection.specs.Steps.{Knows}
 use Rattle.ob_shared_connection.specs.declared.bell.Waiter.TheVariants.{Writer, Sender}
 use Rattle.ob_shared_connection.specs.declared.view.Bells.{Bells}

@@ -3,7 +3,7 @@ use Rattle.std.proofs.lemmas.List.{nil_from_length}
 use Rattle.ob_seq.specs.State.{closed_after}
 use Rattle.ob_connection.specs.Connected.{AreGathered}
 use Rattle.ob_connection.specs.Connected.{Gives}
-use Rattle.ob_shared_connection.specs.Callers.{caller_held}
+use Rattle.ob_shared_connection.specs.Steps.{caller_held}
 use Rattle.ob_shared_connection.proofs.Sending.{offers_nothing}
 use Rattle.ob_shared_connection.proofs.caller.Caller.offer.Goals as goal
 

@@ -1,7 +1,7 @@
 use Rattle.std.proofs.Common.{◌∷◌, sym, ap, ◌∙◌}
 use Rattle.atomic_table.specs.Table.{rest}
 use Rattle.ob_shared_connection.specs.Steps.{carried_in}
-use Rattle.ob_shared_connection.specs.Tables.{table_of}
+use Rattle.ob_shared_connection.specs.Ruled.{table_of}
 use Rattle.ob_shared_connection.proofs.caller.Caller.settle.Goals as goal
 
 pub slot_mut-carried-requires : goal.slot_mut-carried-requires

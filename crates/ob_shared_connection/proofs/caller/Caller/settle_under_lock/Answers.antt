@@ -1,4 +1,4 @@
-use Rattle.ob_shared_connection.specs.Callers.{caller_held}
+use Rattle.ob_shared_connection.specs.Steps.{caller_held}
 use Rattle.ob_shared_connection.proofs.caller.Caller.settle_under_lock.Goals as goal
 
 pub returns-clause-under : goal.returns-clause-under

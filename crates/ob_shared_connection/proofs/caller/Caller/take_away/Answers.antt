@@ -1,4 +1,4 @@
-use Rattle.ob_shared_connection.specs.Callers.{caller_held}
+use Rattle.ob_shared_connection.specs.Steps.{caller_held}
 use Rattle.ob_shared_connection.proofs.Sending.{takes_away}
 use Rattle.ob_shared_connection.proofs.caller.Caller.take_away.Goals as goal
 

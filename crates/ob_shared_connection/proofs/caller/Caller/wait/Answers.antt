@@ -1,4 +1,4 @@
-use Rattle.ob_shared_connection.specs.Callers.{caller_handle, caller_held}
+use Rattle.ob_shared_connection.specs.Steps.{caller_handle, caller_held}
 use Rattle.ob_shared_connection.proofs.Waiting.{locked_anew, locked_still}
 use Rattle.ob_shared_connection.proofs.caller.Caller.wait.Goals as goal
 

@@ -1,4 +1,4 @@
-use Rattle.ob_shared_connection.specs.Callers.{IsHolder, caller_handle, caller_held}
+use Rattle.ob_shared_connection.specs.Steps.{IsHolder, caller_handle, caller_held}
 use Rattle.ob_shared_connection.specs.Calls.{IsLock}
 use Rattle.ob_shared_connection.proofs.caller.Caller.wait_within.Given as goal
 

@@ -1,4 +1,4 @@
-use Rattle.ob_shared_connection.specs.Covers.{cover_of}
+use Rattle.ob_shared_connection.specs.Values.{cover_of}
 use Rattle.ob_shared_connection.proofs.Growing.{still_under}
 use Rattle.ob_shared_connection.proofs.carried.Carried.act.Goals as goal
 

@@ -1,6 +1,5 @@
 use Rattle.std.proofs.Common.{◌≡◌}
-use Rattle.ob_shared_connection.specs.Bells.{silenced}
-use Rattle.ob_shared_connection.specs.Ruled.{hearing_view}
+use Rattle.ob_shared_connection.specs.Ruled.{silenced, hearing_view}
 use Rattle.ob_shared_connection.proofs.Ringing.{at_bell, may_silence}
 use Rattle.ob_shared_connection.proofs.shared.Shared.silence.Goals as goal
 

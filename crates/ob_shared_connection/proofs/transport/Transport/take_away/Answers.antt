@@ -1,6 +1,6 @@
 use Rattle.std.proofs.Common.{sym, ap, ◌∙◌, subst}
 use Rattle.ob_shared_connection.specs.Calls.{IsLock}
-use Rattle.ob_shared_connection.specs.Callers.{caller_held}
+use Rattle.ob_shared_connection.specs.Steps.{caller_held}
 use Rattle.ob_shared_connection.specs.Values.{HandleValue}
 use Rattle.ob_shared_connection.proofs.Taking.{accepted_if_in_front}
 use Rattle.ob_shared_connection.proofs.transport.Transport.take_away.Goals as goal

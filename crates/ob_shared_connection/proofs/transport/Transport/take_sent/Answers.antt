@@ -1,5 +1,5 @@
 use Rattle.std.proofs.Common.{sym, subst}
-use Rattle.ob_shared_connection.specs.Staying.{AreInFront}
+use Rattle.ob_shared_connection.specs.Sending.{AreInFront}
 use Rattle.ob_shared_connection.specs.Values.{HandleValue}
 use Rattle.ob_shared_connection.proofs.Taking.{taken_if_in_front}
 use Rattle.ob_shared_connection.proofs.transport.Transport.take_sent.Goals as goal

@@ -1,7 +1,7 @@
 use Rattle.std.proofs.Common.{◌≡◌, ◌∷◌, drop, length, sym, ap, ◌∙◌, arith}
 use Rattle.std.specs.Prelude.{vec_capacity, vec_len}
 use Rattle.std.proofs.lemmas.Result.{IfOk-at_ok}
-use Rattle.ob_shared.specs.Share.{Maker}
+use Rattle.ob_shared.specs.Calls.{Maker}
 use Rattle.ob_pool.proofs.Jobs.Steps.{commands_rest, made_more, numbered_still, place_next, places_rest, room_rest}
 use Rattle.ob_pool.proofs.threads.job.Job.run.Goals as goal
 
