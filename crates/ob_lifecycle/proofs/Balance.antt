@@ -11,7 +11,8 @@ use Rattle.ob_types.specs.declared.estimate.Estimate.{Estimate}
 use Rattle.ob_types.specs.declared.message.Message.{Message}
 use Rattle.ob_seq.specs.Effect.{effect, progressed_row, rows_after}
 use Rattle.ob_seq.specs.Rows.{Settings, new_row, counted_size, total}
-use Rattle.ob_lifecycle.specs.Counts.{accepted_after, ended_after, ended_by, ended_of, is_cancelled, is_failed, is_pending, is_sent}
+use Rattle.ob_types.specs.Replies.{is_cancelled, is_failed, is_success}
+use Rattle.ob_lifecycle.specs.Counts.{accepted_after, ended_after, ended_by, ended_of, is_pending}
 use Rattle.ob_lifecycle.specs.Counts.{none, pending_after, together, written_by, written_of}
 use Rattle.ob_lifecycle.specs.Events.{Event, Accepted, Refused, Finishing, Ticked, Opened, along, commands_in}
 use Rattle.ob_lifecycle.specs.declared.count.Count.{Count}
@@ -67,7 +68,7 @@ alike_progress settings commands n =
 -- what a command writes and what was pending is what it ends and what is pending then
 messages_balance : (settings : Settings) (commands : List Command) (command : Command)
     → (written_of settings command).messages + (pending_after settings commands).messages
-    ≡ (((ended_of is_sent settings commands command).messages + (ended_of is_failed settings commands command).messages)
+    ≡ (((ended_of is_success settings commands command).messages + (ended_of is_failed settings commands command).messages)
     + (ended_of is_cancelled settings commands command).messages) + (pending_after settings (commands ++ command ∷ [])).messages
 messages_balance settings commands (Write message) = omega (arith, written_messages settings commands message)
 messages_balance settings commands (Progress n) =
@@ -82,7 +83,7 @@ messages_balance settings commands command = omega (arith, fewer_messages_after 
 
 bytes_balance : (settings : Settings) (commands : List Command) (command : Command)
     → (written_of settings command).bytes + (pending_after settings commands).bytes
-    ≡ (((ended_of is_sent settings commands command).bytes + (ended_of is_failed settings commands command).bytes)
+    ≡ (((ended_of is_success settings commands command).bytes + (ended_of is_failed settings commands command).bytes)
     + (ended_of is_cancelled settings commands command).bytes) + (pending_after settings (commands ++ command ∷ [])).bytes
 bytes_balance settings commands (Write message) = omega (arith, written_bytes settings commands message)
 bytes_balance settings commands (Progress n) =
@@ -111,12 +112,12 @@ bytes_more value events event =
 -- so what was accepted is sent, failed, cancelled or pending
 abbrev pub MessagesBalance : Opened → List Event → Type 0
 MessagesBalance opened events = (accepted_after opened events).messages
-    ≡ (((ended_after is_sent opened events).messages + (ended_after is_failed opened events).messages)
+    ≡ (((ended_after is_success opened events).messages + (ended_after is_failed opened events).messages)
     + (ended_after is_cancelled opened events).messages) + (pending_after opened.settings (commands_in events)).messages
 
 abbrev pub BytesBalance : Opened → List Event → Type 0
 BytesBalance opened events = (accepted_after opened events).bytes
-    ≡ (((ended_after is_sent opened events).bytes + (ended_after is_failed opened events).bytes)
+    ≡ (((ended_after is_success opened events).bytes + (ended_after is_failed opened events).bytes)
     + (ended_after is_cancelled opened events).bytes) + (pending_after opened.settings (commands_in events)).bytes
 
 pub none_more : (events : List Event) (event : Event) → commands_in (event ∷ []) ≡ [] → commands_in (events ++ event ∷ []) ≡ commands_in events
@@ -124,7 +125,7 @@ none_more events event none = commands_more events (event ∷ []) ∙ ap (λ mor
 
 messages_by : (opened : Opened) (earlier : List Event) (event : Event)
     → (written_by opened earlier event).messages + (pending_after opened.settings (commands_in earlier)).messages
-    ≡ (((ended_by is_sent opened earlier event).messages + (ended_by is_failed opened earlier event).messages)
+    ≡ (((ended_by is_success opened earlier event).messages + (ended_by is_failed opened earlier event).messages)
     + (ended_by is_cancelled opened earlier event).messages) + (pending_after opened.settings (commands_in (earlier ++ event ∷ []))).messages
 messages_by opened earlier (Accepted command) =
     rw (commands_more earlier (Accepted command ∷ [])) (messages_balance opened.settings (commands_in earlier) command)
@@ -134,7 +135,7 @@ messages_by opened earlier (Ticked now) = rw (none_more earlier (Ticked now) ref
 
 bytes_by : (opened : Opened) (earlier : List Event) (event : Event)
     → (written_by opened earlier event).bytes + (pending_after opened.settings (commands_in earlier)).bytes
-    ≡ (((ended_by is_sent opened earlier event).bytes + (ended_by is_failed opened earlier event).bytes)
+    ≡ (((ended_by is_success opened earlier event).bytes + (ended_by is_failed opened earlier event).bytes)
     + (ended_by is_cancelled opened earlier event).bytes) + (pending_after opened.settings (commands_in (earlier ++ event ∷ []))).bytes
 bytes_by opened earlier (Accepted command) =
     rw (commands_more earlier (Accepted command ∷ [])) (bytes_balance opened.settings (commands_in earlier) command)
@@ -150,7 +151,7 @@ messages_balanced opened events =
       before,
       messages_by opened earlier event,
       messages_more (written_by opened) earlier event,
-      messages_more (ended_by is_sent opened) earlier event,
+      messages_more (ended_by is_success opened) earlier event,
       messages_more (ended_by is_failed opened) earlier event,
       messages_more (ended_by is_cancelled opened) earlier event,
     )) events
@@ -163,7 +164,7 @@ bytes_balanced opened events =
       before,
       bytes_by opened earlier event,
       bytes_more (written_by opened) earlier event,
-      bytes_more (ended_by is_sent opened) earlier event,
+      bytes_more (ended_by is_success opened) earlier event,
       bytes_more (ended_by is_failed opened) earlier event,
       bytes_more (ended_by is_cancelled opened) earlier event,
     )) events

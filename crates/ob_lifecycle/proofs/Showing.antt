@@ -1,6 +1,7 @@
 -- The numbers that a look shows: what was sent is what is left of what was accepted.
 use Rattle.std.proofs.Common.{◌≡◌, ◌+◌, ◌-◌, ◌≤◌, List, ap, ◌∙◌, arith}
-use Rattle.ob_lifecycle.specs.Counts.{ended_after, is_sent, pending_after}
+use Rattle.ob_types.specs.Replies.{is_success}
+use Rattle.ob_lifecycle.specs.Counts.{ended_after, pending_after}
 use Rattle.ob_lifecycle.specs.Events.{Event, commands_in}
 use Rattle.ob_lifecycle.specs.Managed.{Managed, StandsFor, opened_as}
 use Rattle.ob_lifecycle.specs.Strain.{numbers_after}
@@ -73,7 +74,7 @@ numbers_shown managed events pending stands is =
     let messages = rest_messages managed events pending stands is in
     let bytes = rest_bytes managed events pending stands is in
     numbers_like _ (numbers_after (opened_as managed) events) (ap (λ t. t.accepted) stands.tally)
-    (count_like _ (ended_after is_sent (opened_as managed) events)
+    (count_like _ (ended_after is_success (opened_as managed) events)
     (omega (
       arith,
       messages_balanced (opened_as managed) events,

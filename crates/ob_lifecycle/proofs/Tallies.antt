@@ -13,7 +13,8 @@ use Rattle.ob_seq.specs.Effect.{greatest, rows_after}
 use Rattle.ob_seq.specs.Rows.{Settings, total}
 use Rattle.ob_connection.specs.Connected.{Connected, Gives as ConnectionGives}
 use Rattle.ob_connection.specs.Obeying.{Obeys}
-use Rattle.ob_lifecycle.specs.Counts.{accepted_after, beyond, cancels_wait, ended_after, ended_by, ended_of, is_cancelled, is_failed, none, peak_after}
+use Rattle.ob_types.specs.Replies.{is_cancelled, is_failed}
+use Rattle.ob_lifecycle.specs.Counts.{accepted_after, beyond, cancels_wait, ended_after, ended_by, ended_of, none, peak_after}
 use Rattle.ob_lifecycle.specs.Counts.{pending_after, plus, reached_by, tally_after, tally_by, together, written_by, written_of, Counts, Fits, FitsSome}
 use Rattle.ob_lifecycle.specs.Events.{Event, Accepted, Refused, Finishing, Ticked, Opened, along, commands_in}
 use Rattle.ob_lifecycle.specs.Managed.{Managed, StandsFor, StandsForSome, opened_as}

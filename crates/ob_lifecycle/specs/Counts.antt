@@ -2,6 +2,7 @@
 use Rattle.std.specs.Prelude.{ℕ, ◌+◌, ◌-◌, Bool, true, false, ◌||◌, List, [], ◌∷◌, ◌++◌, Option, Some, None, count_by, sum_by}
 use Rattle.std.specs.Prelude.{◌≡◌, ◌≤◌, if◌then◌else◌, max, nat_lt, not, reverse, Result, Ok, Err}
 use Rattle.std.specs.List.{list_any, take_while}
+use Rattle.ob_types.specs.Replies.{is_failed, is_cancelled}
 use Rattle.ob_types.specs.PendingSize.{counted_bytes}
 use Rattle.ob_types.specs.Traits.{traits_of}
 use Rattle.ob_types.specs.declared.command.Command.{Command}
@@ -66,24 +67,6 @@ ends_as (FailFlushed cause notify) = Some (Failed cause)
 ends_as (Close cause) = Some (Failed cause)
 ends_as (UserBit index writable) = None
 ends_as (SetMarks marks) = None
-
--- whether an outcome is that a message was sent
-abbrev pub is_sent : Outcome → Bool
-is_sent Success = true
-is_sent (Failed cause) = false
-is_sent Cancelled = false
-
--- whether an outcome is that a message failed
-abbrev pub is_failed : Outcome → Bool
-is_failed Success = false
-is_failed (Failed cause) = true
-is_failed Cancelled = false
-
--- whether an outcome is that a message was cancelled
-abbrev pub is_cancelled : Outcome → Bool
-is_cancelled Success = false
-is_cancelled (Failed cause) = false
-is_cancelled Cancelled = true
 
 -- whether there is an outcome, and it is such a one
 abbrev pub is_such : (Outcome → Bool) → Option Outcome → Bool

@@ -10,7 +10,8 @@ use Rattle.ob_types.specs.declared.refusal.Refusal.TheVariants.{NoMemory}
 use Rattle.ob_types.specs.declared.reply.Change.{Change}
 use Rattle.ob_types.specs.declared.reply.Change.TheVariants.{Unwritable, Writable}
 use Rattle.ob_seq.specs.State.{writable_after}
-use Rattle.ob_lifecycle.specs.Counts.{most_told, accepted_after, ended_after, is_cancelled, is_failed, is_sent}
+use Rattle.ob_types.specs.Replies.{is_cancelled, is_failed, is_success}
+use Rattle.ob_lifecycle.specs.Counts.{most_told, accepted_after, ended_after}
 use Rattle.ob_lifecycle.specs.Counts.{peak_after, pending_after, plus}
 use Rattle.ob_lifecycle.specs.Events.{Event, Accepted, Refused, Finishing, Ticked, Opened, along, clock_after}
 use Rattle.ob_lifecycle.specs.Events.{commands_in}
@@ -141,7 +142,7 @@ strained (Err fault) strain = record strain { refusals = refused_more fault stra
 abbrev pub numbers_after : Opened → List Event → Numbers
 numbers_after opened events = record {
   accepted = accepted_after opened events;
-  sent = ended_after is_sent opened events;
+  sent = ended_after is_success opened events;
   failed = ended_after is_failed opened events;
   cancelled = ended_after is_cancelled opened events;
   pending = pending_after opened.settings (commands_in events);

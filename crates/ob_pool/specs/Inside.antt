@@ -14,7 +14,8 @@ use Rattle.ob_history.specs.declared.record.Record.{Record}
 use Rattle.ob_shared.specs.Calls.{HandsInAll, IsAsOpened, Opened, Handed, made_by}
 use Rattle.ob_pool.specs.Drive.{room_of, rooms_of, plans_fault}
 use Rattle.ob_pool.specs.Report.{bits_of, cancels_of, flushes_of, refused_of, settled_as, taken_of, writes_of}
-use Rattle.ob_pool.specs.Report.{is_cancel, is_cancelled, is_failed, is_flush, is_success, is_user_bit, removed_by}
+use Rattle.ob_types.specs.Replies.{is_cancelled, is_failed, is_success}
+use Rattle.ob_pool.specs.Report.{is_cancel, is_flush, is_user_bit, removed_by}
 use Rattle.ob_pool.specs.Report.{IsCounted, AreAtRest}
 use Rattle.ob_pool.specs.declared.plan.Run.{Run}
 use Rattle.ob_pool.specs.declared.report.Report.{Report}

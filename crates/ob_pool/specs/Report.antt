@@ -4,6 +4,7 @@ use Rattle.std.specs.Int.{bit_at}
 use Rattle.std.specs.List.{range_with_len, All}
 use Rattle.std.specs.Prelude.{ℕ, Bool, true, false, not, ◌&&◌, ◌==◌, nat_lt, is_some, List, count_by, sum_by, ◌≡◌, map}
 use Rattle.std.specs.Prelude.{Some, slice_get, ◌+◌, ◌<◌, ◌≤◌, length}
+use Rattle.ob_types.specs.Replies.{is_success, is_failed, is_cancelled}
 use Rattle.ob_types.specs.Marks.{Marks}
 use Rattle.ob_types.specs.Traits.{traits_of, is_write}
 use Rattle.ob_types.specs.declared.command.Command.{Command}
@@ -38,24 +39,6 @@ is_failing command = (traits_of command).failing
 -- the bytes that a command removes
 abbrev pub removed_by : Command → ℕ
 removed_by command = (traits_of command).removed
-
--- whether an outcome is a success
-abbrev pub is_success : Outcome → Bool
-is_success Success = true
-is_success (Failed cause) = false
-is_success Cancelled = false
-
--- whether an outcome is a failure
-abbrev pub is_failed : Outcome → Bool
-is_failed Success = false
-is_failed (Failed cause) = true
-is_failed Cancelled = false
-
--- whether an outcome is a cancellation
-abbrev pub is_cancelled : Outcome → Bool
-is_cancelled Success = false
-is_cancelled (Failed cause) = false
-is_cancelled Cancelled = true
 
 -- how many accepted commands of a history are writes
 abbrev pub writes_of : List Record → ℕ

@@ -1,5 +1,7 @@
--- Which promises still wait, and the refusals by number.
+-- Which promises still wait, how one ended, and the refusals by number.
 use Rattle.std.specs.Prelude.{Bool, true, false, ℕ}
+use Rattle.ob_types.specs.declared.promise.Outcome.{Outcome}
+use Rattle.ob_types.specs.declared.promise.Outcome.TheVariants.{Success, Failed, Cancelled}
 use Rattle.ob_types.specs.declared.promise.PromiseState.{PromiseState}
 use Rattle.ob_types.specs.declared.promise.PromiseState.TheVariants.{Waiting, Fixed, Settled}
 use Rattle.ob_types.specs.declared.refusal.Refusal.{Refusal}
@@ -12,6 +14,24 @@ abbrev pub is_waiting : PromiseState → Bool
 is_waiting Waiting = true
 is_waiting Fixed = false
 is_waiting (Settled outcome) = false
+
+-- whether an outcome is that a message was sent
+abbrev pub is_success : Outcome → Bool
+is_success Success = true
+is_success (Failed cause) = false
+is_success Cancelled = false
+
+-- whether an outcome is that a message failed
+abbrev pub is_failed : Outcome → Bool
+is_failed Success = false
+is_failed (Failed cause) = true
+is_failed Cancelled = false
+
+-- whether an outcome is that a promise was cancelled
+abbrev pub is_cancelled : Outcome → Bool
+is_cancelled Success = false
+is_cancelled (Failed cause) = false
+is_cancelled Cancelled = true
 
 -- the number under which a refusal is known in traces
 abbrev pub number_of : Refusal → ℕ

@@ -12,7 +12,8 @@ use Rattle.ob_history.specs.History.{accepted_commands, is_accepted, History, Is
 use Rattle.ob_history.specs.Seen.{settlements_in}
 use Rattle.ob_history.specs.declared.record.Record.{Record}
 use Rattle.ob_pool.specs.Inside.{DoFit, counts_of, plus}
-use Rattle.ob_pool.specs.Report.{is_cancel, is_cancelled, is_failed, is_flush, is_success, is_user_bit, settled_as}
+use Rattle.ob_types.specs.Replies.{is_cancelled, is_failed, is_success}
+use Rattle.ob_pool.specs.Report.{is_cancel, is_flush, is_user_bit, settled_as}
 use Rattle.ob_pool.specs.Report.{taken_of}
 use Rattle.ob_pool.specs.declared.report.counts.Counts.{Counts}
 use Rattle.ob_pool.proofs.Histories.AcceptedCounts.{accepted_at_most, accepted_of_both, taken_of_both}

@@ -22,7 +22,8 @@ use Rattle.ob_history.specs.Seen.{settlements_in}
 use Rattle.ob_types.specs.Traits.{is_write}
 use Rattle.ob_pool.proofs.Histories.AcceptedCounts.{accepted_at_most}
 use Rattle.ob_history.specs.declared.record.Record.{Record}
-use Rattle.ob_pool.specs.Report.{is_cancelled, is_failed, is_success, left_of, settled_as, writes_of}
+use Rattle.ob_types.specs.Replies.{is_cancelled, is_failed, is_success}
+use Rattle.ob_pool.specs.Report.{left_of, settled_as, writes_of}
 
 -- how many settlements are of promises below an id
 abbrev below : ℕ → List (PromiseId × Outcome) → ℕ
