@@ -67,6 +67,8 @@ enum written queue_room(struct queue *queue, uint32_t size, uint8_t **at)
 enum written queue_made(struct queue *queue, uint32_t size)
 {
     queue->last->used += size;
+    /* as limekeel.h does: the next response comes when others had theirs */
+    __builtin_prefetch(queue->last->bytes + queue->last->used + 64, 1);
     queue->pending += size;
     if (queue->writable && queue->pending > high_mark)
         queue->writable = false, queue_stops++;
