@@ -1,3 +1,5 @@
+//! Whether what lanes are granted makes a world, or why not.
+
 ghost use Rattle.std.specs.Prelude.{◌≡◌, ◌<◌, ◌≤◌, length, map};
 ghost use Rattle.ob_core.specs.World.{most_lanes, start_fault, room_of, any_overlap, holders_of};
 

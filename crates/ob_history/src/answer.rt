@@ -1,4 +1,4 @@
-//! The answer of a buffer, and what is done with it.
+//! The answer of a buffer, and what is done with it, for this crate alone.
 
 ghost use Rattle.std.specs.Prelude.{◌≡◌, ◌≤◌, ◌↔◌, List, length, IsErrOf, IsOk, IsTrue, IfOk, OnErr};
 ghost use Rattle.ob_seq.specs.Pending.{Accepts, Answers, Follows, settled_by};

@@ -1,4 +1,4 @@
--- Masks of one bit, and of all bits but one.
+-- Masks of one bit, and of all bits but one, and that each bit of a lane is one of them.
 use Rattle.std.proofs.Common.{◌≡◌, ℕ, ◌+◌, ◌*◌, ◌%◌, ◌^◌, ◌<◌, IsTrue, ⊎_elim, ap, arith}
 use Rattle.std.proofs.Math.Nat.{mod-eq_of_lt}
 use Rattle.std.proofs.Math.Pow.{pow-lt}
@@ -10,7 +10,7 @@ use Rattle.std.specs.Int.{bit_at, bit_not, w64}
 use Rattle.ob_core.specs.Step.{is_held}
 use Rattle.ob_core.specs.declared.lane.Lane.{Lane}
 
--- a lane holds bits of a word of 32 alone
+-- a bit that a lane holds has an index below 32
 pub held_within : (lane : Lane) (index : ℕ) → IsTrue (is_held lane index) → index < 32
 held_within lane index held = grind (arith, nat_tests, held)
 

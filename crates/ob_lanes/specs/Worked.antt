@@ -353,7 +353,7 @@ EndsJoined =
 abbrev pub knows : ℕ → List Made → List (List Move) → Knows
 knows raised made seen = (record { grant = with_bits; lane = lone raised None; made = made; seen = seen; name = []; splits = 0; taken = []; spent = false }, [])
 
--- to set bit 34 of both tells of bit 2 of the word; to set bit 33 does not, nor to set it and keep no step, and nothing
+-- to set bit 34 of the number of total and word tells of bit 2 of the word; to set bit 33 does not, nor to set it and keep no step, and nothing
 -- that is found shows bit 1, which the lane holds and has not raised
 abbrev pub TellsOfBit2 : Type 0
 TellsOfBit2 =

@@ -38,7 +38,7 @@ pub enum DriveFault {
 impl DriveFault {
     ghost use Rattle.ob_pool.specs.Drive.{number_of};
 
-    /// The number of the fault, 1 to 8.
+    /// The number of the fault, 1 to 8, which it keeps for good: pages and traces show it.
     pub fn number(self) -> u8
         ensures { result ≡ number_of self }
     {

@@ -50,6 +50,8 @@ pub trait Records {
     ghost records: { List Record };
 }
 
+/// A caller takes this for the type, and picks the list in its own `Invariants.antt`: what stands here is for none that
+/// did not.
 impl Records for Brand {
     ghost use Rattle.std.specs.Prelude.{[]};
 

@@ -29,7 +29,7 @@ pub struct Drained {
 }
 
 /// Makes up to `turns` passes, one after another, until one of them is idle or stalled, which counts as a turn too.
-/// With 0 turns it makes none.
+/// With 0 turns it makes none. Each pass offers the sink at most what `limits` says, and that has to be something.
 ///
 /// A fault is that of the last pass. What earlier passes did stands.
 pub fn drain<B: Booked, S: Sink>(

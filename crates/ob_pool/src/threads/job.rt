@@ -64,8 +64,8 @@ struct StepEnd<L: Named> {
 
 impl<L: Named> Job<L> {
     /// Carries the plan out with a lane that has room for it, and gives the lane back. What it hands in has a receipt
-    /// of each command, in order. Before each command it reads whether the buffer is writable, and asks its gate; if the
-    /// drive's writers heed that, a write waits for it.
+    /// of each command, in order. Before each command it reads whether the buffer is writable, and asks its gate, by which
+    /// a test holds it there, and tells the gate when it is made; if the drive's writers heed that, a write waits for it.
     pub fn run<R: Wait + Clock, G: Gate>(
         self,
         rt: &R,

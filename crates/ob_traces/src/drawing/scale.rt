@@ -38,7 +38,8 @@ impl Scale {
         1120 + nearest(7520 * place, u64::from(greater(self.lines, 1)))
     }
 
-    /// Where `bytes` stand, in tenths of a pixel from the top.
+    /// Where `total` bytes stand, in tenths of a pixel from the top: 0 at 350 pixels, where `piece.rt` has the axis and
+    /// `docs/draw-marks` its bottom.
     pub fn y(self, total: u32) -> u64
         ensures { result ≡ y_of self total }
     {

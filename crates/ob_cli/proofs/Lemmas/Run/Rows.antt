@@ -59,7 +59,7 @@ rows =
     (codes "b 304\nb 0\nf\nrm\n", codes "id 0 t=400 w=00000000\nid 1 t=496 w=00000001 -\nn 2 t=496 w=00000001\nyes t=96 w=00000000 + 0:ok\n") ∷
     -- equality with the low mark clears nothing
     (codes "b 204\nb 104\nf\nrm\nrm\n", codes "id 0 t=300 w=00000000\nid 1 t=500 w=00000001 -\nn 2 t=500 w=00000001\nyes t=200 w=00000001 0:ok\nyes t=0 w=00000000 + 1:ok\n") ∷
-    -- looks at an empty and a full buffer
+    -- a look at a buffer that is not writable, of which nothing is flushed
     (codes "b 304\nb 0\n?", codes "id 0 t=400 w=00000000\nid 1 t=496 w=00000001 -\nsize=0 cur=0 bu=0 bw=297 t=496 w=00000001\n") ∷
     -- a cancelled entry is voided at the flush
     (codes "b 304\nb 4\nx 0\nf\nrm\nrm\n", codes "id 0 t=400 w=00000000\nid 1 t=500 w=00000001 -\nyes t=500 w=00000001 0:x\nn 2 t=100 w=00000000 +\nyes t=100 w=00000000\nyes t=0 w=00000000 1:ok\n") ∷
