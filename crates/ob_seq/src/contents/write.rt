@@ -1,11 +1,11 @@
 //! A write is asked for and then made: what a caller adds comes between, so that it can fail before any change.
 
-ghost use Rattle.std.specs.Prelude.{◌≡◌, ◌+◌, ◌≤◌, max, [], List, IfErr, IfOk, IsOk, OnOk, OnErr, Some, true, false};
+ghost use Rattle.std.specs.Prelude.{◌≡◌, ◌+◌, ◌<◌, ◌≤◌, max, [], List, IfErr, IfOk, IsOk, OnOk, OnErr, Some, true};
 ghost use Rattle.std.specs.VecDeque.{deque_capacity, deque_len};
 ghost use Rattle.ob_types.specs.Limits.{greatest_total};
 ghost use Rattle.ob_types.specs.Marks.{change_between};
 ghost use Rattle.ob_types.specs.declared.promise.Outcome.{Outcome};
-ghost use Rattle.ob_seq.specs.Unsent.{room_for_one_more, spares, whole};
+ghost use Rattle.ob_seq.specs.Unsent.{grown_room, room_for_one_more, spares, whole};
 ghost use Rattle.ob_seq.specs.Steps.Step.{pending_total};
 ghost use Rattle.ob_seq.specs.Steps.Commands.{admitted, has_bytes_left, written};
 
@@ -61,42 +61,9 @@ impl Contents {
         ensures spares { spares self.old ≡ true → IsOk result }
         ensures returned { IfErr result (λ returned. returned ≡ message) }
     {
-        if self.entries.len() < self.entries.capacity() {
-            Ok(self.push(message, size))
-        } else {
-            self.grow_and_push(message, size)
-        }
-    }
-
-    /// The same if the ring is full.
-    // It is rare: apart with all that comes after it, a write keeps no registers for what is needed then.
-    #[cold]
-    #[inline(never)]
-    fn grow_and_push(&mut self, message: Message, size: u32) -> Result<Option<Change>, Message>
-        requires fits { pending_total (whole [] self.old) + size ≤ greatest_total }
-        requires full { spares self.old ≡ false }
-        ensures ok { OnOk result ((gone : List Outcome) →
-            whole gone self.new ≡ written (whole gone self.old) message size) }
-        ensures change { IfOk result (λ change. change ≡ change_between self.old.word self.new.word) }
-        ensures room { OnOk result (self.new.room ≡ room_for_one_more self.old) }
-        ensures err { OnErr result (self.new ≡ self.old) }
-        ensures returned { IfErr result (λ returned. returned ≡ message) }
-    {
-        let Ok(()) = grow(&mut self.entries) else {
+        let Ok(()) = make_room(&mut self.entries) else {
             return Err(message);
         };
-        Ok(self.push(message, size))
-    }
-
-    /// The same if the ring has a place to spare.
-    #[inline(always)]
-    fn push(&mut self, message: Message, size: u32) -> Option<Change>
-        requires fits { pending_total (whole [] self.old) + size ≤ greatest_total }
-        requires spares { spares self.old ≡ true }
-        ensures after { (gone : List Outcome) → whole gone self.new ≡ written (whole gone self.old) message size }
-        ensures change { result ≡ change_between self.old.word self.new.word }
-        ensures room { self.new.room ≡ self.old.room }
-    {
         self.entries.push_back_reserved(Entry {
             message,
             progress: 0,
@@ -106,11 +73,31 @@ impl Contents {
         self.total += size;
         let before = self.word;
         self.word = word::after_rise(self.marks, before, size, self.total);
-        Change::between(before, self.word)
+        Ok(Change::between(before, self.word))
     }
 }
 
+/// Makes room for one more entry. If that fails, all is as it was.
+#[inline(always)]
+fn make_room(entries: &mut VecDeque<Entry>) -> Result<(), AllocError>
+    ensures items { entries.new.items ≡ entries.old.items }
+    ensures len { deque_len entries.new ≡ deque_len entries.old }
+    ensures ok { OnOk result (deque_len entries.new < deque_capacity entries.new) }
+    ensures room { OnOk result (deque_capacity entries.new
+        ≡ grown_room (deque_len entries.old) (deque_capacity entries.old)) }
+    ensures err { OnErr result (deque_capacity entries.new ≡ deque_capacity entries.old) }
+    ensures spares { deque_len entries.old < deque_capacity entries.old → IsOk result }
+{
+    if entries.len() < entries.capacity() {
+        return Ok(());
+    }
+    grow(entries)
+}
+
 /// Makes room for as many entries again as there are, and for 8 more at least.
+// It is rare: apart, a write saves no registers for it.
+#[cold]
+#[inline(never)]
 fn grow(entries: &mut VecDeque<Entry>) -> Result<(), AllocError>
     requires { deque_capacity entries.old ≡ deque_len entries.old }
     ensures items { entries.new.items ≡ entries.old.items }
