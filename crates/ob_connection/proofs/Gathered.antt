@@ -10,4 +10,4 @@ pub gathered_there : {inside now : Connected} → inside ≡ now → (limit most
     ≡ gathered_after now.unsent.settings commands limit most
 gathered_there {now = now} view limit most commands stands =
     ap (λ (one : Connected). first_blocks limit most (with_bytes (blocks_left (pending_entries one.unsent.line)))) view
-    ∙ gathered_is (whole stands.past now.unsent) limit most commands stands.leaves
+    ∙ gathered_is (whole stands.past now.unsent) limit most commands stands.as_buffer.leaves

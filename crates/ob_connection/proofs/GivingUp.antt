@@ -21,7 +21,7 @@ module _ {now : Connected} {commands : List Command} (cause : Cause) (refusal : 
     (unclosed : now.unsent.closed ≡ false) where
   -- an open connection fails what is flushed
   pub fails_line : Err refusal ≡ answer_of_connection now.unsent.settings commands (FailFlushed cause false) → ⊥
-  fails_line same = let opened : is_closed commands ≡ false = sym stands.leaves.closed ∙ unclosed in grind arith
+  fails_line same = let opened : is_closed commands ≡ false = sym stands.as_buffer.leaves.closed ∙ unclosed in grind arith
 
   -- and then it closes
   pub closes_then :
@@ -29,7 +29,7 @@ module _ {now : Connected} {commands : List Command} (cause : Cause) (refusal : 
   closes_then same =
       let all = commands ++ FailFlushed cause false ∷ [] in
       let old = held (past_of stands) in
-      let on = goes_on connection_limit (FailFlushed cause false) old commands stands.accepted stands.leaves unclosed refl in
+      let on = goes_on connection_limit (FailFlushed cause false) old commands stands.as_buffer.accepted stands.as_buffer.leaves unclosed refl in
       let settings = (simulated connection_limit (FailFlushed cause false) old).settings in
       let mid = line_failed cause false old in
       let shut : mid.closed ≡ false = closed_of_times false (Failed cause) (length old.line) old ∙ unclosed in

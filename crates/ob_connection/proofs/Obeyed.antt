@@ -2,14 +2,14 @@
 use Rattle.ob_connection.proofs.Words.{◌≡◌, sym, ap, ◌∙◌, subst, arith, List, [], ◌∷◌, ◌++◌, true, false, None}
 use Rattle.ob_connection.proofs.Words.{Option, Result, Ok, Err, IsErrOf, Refusal, NoMemory, Reply, Command, PromiseState}
 use Rattle.ob_connection.proofs.Words.{Pending, Step, answer_by, Past, held, Moves, Connected, told_by, step_within}
-use Rattle.ob_connection.proofs.Words.{connection_limit, Leaves, StandsFor, StandsForSome, Answers, Follows, Obeys, commands_with}
+use Rattle.ob_connection.proofs.Words.{connection_limit, StandsForWithin, StandsFor, StandsForSome, Answers, Follows, Obeys}
+use Rattle.ob_connection.proofs.Words.{commands_with}
 use Rattle.ob_connection.proofs.Words.{ℕ, Unsent, Becomes, accepted_writes, most_ids, length, ◌≤◌}
 use Rattle.std.proofs.lemmas.List.{length-map}
 use Rattle.ob_seq.specs.Effect.{rows_after}
 use Rattle.ob_seq.proofs.Rows.Limits.{rows_within}
 use Rattle.ob_connection.specs.Connected.{room_in, roomed, Refuses}
 use Rattle.ob_connection.proofs.Kept.{ids_are, some_past}
-use Rattle.ob_seq.specs.Answer.{are_accepted_within}
 use Rattle.ob_seq.specs.Steps.Within.{StepsWithin}
 use Rattle.ob_connection.specs.Inside.{IsFirstRefusal}
 use Rattle.ob_connection.specs.Obeying.{Accepts}
@@ -47,13 +47,12 @@ stands_with : (command : Command) {old new : Connected} (commands : List Command
     StandsFor new (commands ++ command ∷ [])
 stands_with command commands stands after unclosed made =
     let now = held (past_of stands) in
-    let on = goes_on connection_limit command now commands stands.accepted stands.leaves unclosed made.0 in
+    let on = goes_on connection_limit command now commands stands.as_buffer.accepted stands.as_buffer.leaves unclosed made.0 in
     let same : held after ≡ (step_at command now).after = made.1 in record {
-      accepted = subst (λ (one : Pending). are_accepted_within connection_limit one.settings [] (commands ++ command ∷ [])
-          ≡ true) (sym same) on.0;
       past = after.outcomes;
       forgotten = after.count;
-      leaves = subst (λ (one : Pending). Leaves one (commands ++ command ∷ [])) (sym same) on.1;
+      as_buffer = subst (λ (one : Pending). StandsForWithin connection_limit one (commands ++ command ∷ [])) (sym same)
+          (record { accepted = on.0; leaves = on.1 });
     }
 
 -- so it stands for some history
@@ -70,10 +69,9 @@ pub stands_roomed : {old new : Connected} → new ≡ roomed (room_in new) old �
 stands_roomed same some = subst StandsForSome (sym same) (
   some.0,
   record {
-    accepted = some.1.accepted;
     past = some.1.past;
     forgotten = some.1.forgotten;
-    leaves = some.1.leaves;
+    as_buffer = record { accepted = some.1.as_buffer.accepted; leaves = some.1.as_buffer.leaves };
   },
 )
 
@@ -83,9 +81,9 @@ ids_within {connection} some =
     omega (
       arith,
       ids_are (past_of some.1),
-      ap (λ (states : List PromiseState). length states) some.1.leaves.promises,
+      ap (λ (states : List PromiseState). length states) some.1.as_buffer.leaves.promises,
       length-map (rows_after connection.unsent.settings.estimate some.0) (λ row. row.promise),
-      rows_within connection.unsent.settings most_ids some.0 some.1.accepted,
+      rows_within connection.unsent.settings most_ids some.0 some.1.as_buffer.accepted,
     )
 
 module _ {A : Type 0} (command : Command) {tell : List PromiseState → A → Reply} {old : Connected} where
@@ -108,18 +106,20 @@ module _ {A : Type 0} (command : Command) {tell : List PromiseState → A → Re
 
   module _ {new : Connected} {result : Result A Refusal} (moves : Moves old command tell result new) where
     answers : ¬ IsErrOf result NoMemory → Answers old command tell result
-    answers wanted commands stands =
-        let past = past_of stands in
-        let made = (moves.makes past).1 in
-        rw (← stands.leaves.promises)
-        (made.answer (λ wants. wanted (told_wants (tell (held past).promises) result wants))
-        ∙ answer_is connection_limit command (held past) commands stands.leaves)
+    answers wanted = record {
+      says = λ commands stands.
+          let past = past_of stands in
+          let made = (moves.makes past).1 in
+          rw (← stands.as_buffer.leaves.promises)
+          (made.answer (λ wants. wanted (told_wants (tell (held past).promises) result wants))
+          ∙ answer_is connection_limit command (held past) commands stands.as_buffer.leaves);
+    }
 
     accepts : IsErrOf result NoMemory → Accepts old command
     accepts wants commands stands =
         let past = past_of stands in
         let none = (moves.makes past).1.no_memory_last (wants_told (tell (held past).promises) result wants) in
-        rw (← answer_is connection_limit command (held past) commands stands.leaves, none)
+        rw (← answer_is connection_limit command (held past) commands stands.as_buffer.leaves, none)
 
     -- some history is still stood for
     pub stays : StandsForSome old → StandsForSome new
@@ -153,7 +153,7 @@ pub refuses : (command : Command) {now : Connected} {refusal : Option Refusal} �
     Refuses now command refusal
 refuses command first commands stands =
     let past = past_of stands in
-    let closed = stands.leaves.closed in
-    let refused = (simulated connection_limit command (held past)).refusal commands stands.leaves in
+    let closed = stands.as_buffer.leaves.closed in
+    let refused = (simulated connection_limit command (held past)).refusal commands stands.as_buffer.leaves in
     let is = first past in
     grind arith

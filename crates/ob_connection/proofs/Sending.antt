@@ -34,7 +34,7 @@ use Rattle.ob_seq.proofs.Simulating.Simulated.{goes_on, simulated}
 -- what a connection has left in front is what its history has
 pub run_after : (now : Connected) (commands : List Command) → StandsFor now commands →
     run_of now.unsent ≡ byte_run (rows_after now.unsent.settings.estimate commands)
-run_after now commands stands = sym (run_is (whole stands.past now.unsent) commands stands.leaves)
+run_after now commands stands = sym (run_is (whole stands.past now.unsent) commands stands.as_buffer.leaves)
 
 -- bytes of an offer are the first of what is left in front, and of what is gathered
 module _ (now : Connected) (commands : List Command) (stands : StandsFor now commands) (max_count max_bytes bytes : ℕ)
@@ -91,7 +91,7 @@ ends_are now (IsBroken error) some = is_not_empty now some
 
 -- a connection that is open after each history is open
 pub is_open : {now : Connected} → Gives now closed_after false → StandsForSome now → now.unsent.closed ≡ false
-is_open unclosed some = some.1.leaves.closed ∙ sym (unclosed some.0 some.1)
+is_open unclosed some = some.1.as_buffer.leaves.closed ∙ sym (unclosed some.0 some.1)
 
 -- an open connection has no more bytes in front than may be pending
 pub few_in_front : (now : Connected) (commands : List Command) → StandsFor now commands →
@@ -142,8 +142,8 @@ due_after {now} unclosed max_bytes taken pieces left = record {
       let past : Past now = record { outcomes = stands.past; count = stands.forgotten } in
       let old = held past in
       let command = RemoveBytes taken in
-      let on = goes_on connection_limit command old commands stands.accepted stands.leaves
-      (stands.leaves.closed ∙ sym (unclosed commands stands)) (not_too_many taken old left.within) in
+      let on = goes_on connection_limit command old commands stands.as_buffer.accepted stands.as_buffer.leaves
+      (stands.as_buffer.leaves.closed ∙ sym (unclosed commands stands)) (not_too_many taken old left.within) in
       left.left past
       ∙ gathered_is (removed taken old) most_pieces max_bytes (commands ++ command ∷ []) on.1
       ∙ ap (λ settings. gathered_after settings (commands ++ command ∷ []) most_pieces max_bytes)

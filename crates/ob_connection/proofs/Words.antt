@@ -11,7 +11,7 @@ pub use Rattle.ob_types.specs.declared.refusal.Refusal.{Refusal}
 pub use Rattle.ob_types.specs.declared.refusal.Refusal.TheVariants.{Closed, NoMemory}
 pub use Rattle.ob_types.specs.declared.reply.Reply.{Reply}
 pub use Rattle.ob_seq.specs.Answer.{answer_within}
-pub use Rattle.ob_seq.specs.Pending.{Leaves, Pending}
+pub use Rattle.ob_seq.specs.Pending.{Leaves, Pending, StandsForWithin}
 pub use Rattle.ob_seq.specs.Rows.{Settings}
 pub use Rattle.ob_seq.specs.Steps.Commands.{step_within}
 pub use Rattle.ob_seq.specs.Steps.Step.{Step, Makes, answer_by, held_by, first_of_step}

@@ -11,7 +11,7 @@ use Rattle.ob_seq.specs.Unsent.{Unsent, waiting_count, whole, Shrinks as RingShr
 use Rattle.ob_seq.specs.Answer.{accepted_among_within, answer_within, is_accepted_within, are_accepted_within}
 use Rattle.ob_seq.specs.Answer.{first_refusal_within}
 use Rattle.ob_seq.specs.Rows.{Settings, line, unflushed}
-use Rattle.ob_seq.specs.Pending.{settled_along_within, Leaves}
+use Rattle.ob_seq.specs.Pending.{settled_along_within, StandsForWithin, GivesBy}
 use Rattle.ob_types.specs.declared.message.Message.{Message}
 use Rattle.ob_types.specs.declared.promise.PromiseState.{PromiseState}
 use Rattle.ob_types.specs.declared.promise.PromiseState.TheVariants.{Waiting as StillWaiting, Fixed as IsFixed}
@@ -66,13 +66,12 @@ accepted_by_connection settings commands = accepted_among_within connection_limi
 abbrev pub settled_by_connection : Settings → List Command → List (PromiseId × Outcome)
 settled_by_connection settings commands = settled_along_within connection_limit settings [] commands
 
--- a connection stands for a history if each command of it was accepted, and the connection is what they leave, once
--- outcomes are given to the messages that are gone: those stand nowhere in memory
+-- a connection stands for a history if it does so as a buffer, under its own limit, once outcomes are given to the messages
+-- that are gone: those stand nowhere in memory
 pub record StandsFor (connection : Connected) (commands : List Command) : Type 0 where
-  pub accepted : connection_accepts_all connection.unsent.settings commands ≡ true
   pub past : List Outcome
   pub forgotten : length past ≡ connection.gone
-  pub leaves : Leaves (whole past connection.unsent) commands
+  pub as_buffer : StandsForWithin connection_limit (whole past connection.unsent) commands
 
 -- a connection stands for some history
 abbrev pub StandsForSome : Connected → Type 0
@@ -80,9 +79,7 @@ StandsForSome connection = (commands : List Command) × StandsFor connection com
 
 -- whatever history the connection stands for, the value is what this gives after it
 abbrev pub Gives : {A : Type 0} → Connected → (Settings → List Command → A) → A → Type 0
-Gives connection after value =
-    (commands : List Command) → StandsFor connection commands →
-    value ≡ after connection.unsent.settings commands
+Gives connection after value = GivesBy (StandsFor connection) connection.unsent.settings after value
 
 -- for how many messages the ring of a connection has room
 abbrev pub room_in : Connected → ℕ

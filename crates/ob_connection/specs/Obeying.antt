@@ -2,7 +2,7 @@
 -- intervals of ids, and the model lists settlements; each goes by the promises as they were before the call.
 use Rattle.std.specs.List.{concat}
 use Rattle.std.specs.Prelude.{ℕ, List, map, suc, ◌-◌, [], ◌∷◌, ◌++◌, take, drop, Option, Some, None, Result, Ok, Err}
-use Rattle.std.specs.Prelude.{◌≡◌, ◌+◌, true, IsErrOf, OnErr, IfOk, false}
+use Rattle.std.specs.Prelude.{◌≡◌, ◌+◌, true, IsErrOf, IfOk, false}
 use Rattle.ob_types.specs.declared.promise.Outcome.{Outcome}
 use Rattle.ob_types.specs.declared.promise.Outcome.TheVariants.{Failed}
 use Rattle.ob_types.specs.declared.promise.PromiseId.{PromiseId}
@@ -24,8 +24,10 @@ use Rattle.ob_connection.specs.declared.replies.Removed.{Removed}
 use Rattle.ob_connection.specs.declared.replies.Taken.{Taken}
 use Rattle.ob_connection.specs.declared.refused.Refused.{Refused}
 use Rattle.ob_seq.specs.Effect.{rows_after}
+use Rattle.ob_seq.specs.Pending.{FollowsBy, ObeysBy}
 use Rattle.ob_seq.specs.Rows.{Settings}
-use Rattle.ob_connection.specs.Connected.{Connected, answer_of_connection, connection_accepts, StandsFor, Gives}
+use Rattle.ob_connection.specs.Connected.{Connected, answer_of_connection, connection_accepts, connection_limit}
+use Rattle.ob_connection.specs.Connected.{StandsFor, Gives}
 
 -- the bytes of parts, one behind the other
 abbrev pub joined : List (Bor (List ℕ)) → List ℕ
@@ -74,31 +76,27 @@ abbrev pub promises_after : Settings → List Command → List PromiseState
 promises_after settings commands = map (λ row. row.promise) (rows_after settings.estimate commands)
 
 -- whatever history the old connection stands for, the result says the model's answer to one more command after it
-abbrev pub Answers : {A : Type 0} → Connected → Command → (List PromiseState → A → Reply) → Result A Refusal → Type 0
-Answers old command tell result =
-    (commands : List Command) → StandsFor old commands →
-    told_by (tell (promises_after old.unsent.settings commands)) result
-    ≡ answer_of_connection old.unsent.settings commands command
+pub record Answers {A : Type 0} (old : Connected) (command : Command) (tell : List PromiseState → A → Reply)
+    (result : Result A Refusal) : Type 0 where
+  pub says : (commands : List Command) → StandsFor old commands →
+      told_by (tell (promises_after old.unsent.settings commands)) result
+      ≡ answer_of_connection old.unsent.settings commands command
 
 -- whatever history the old connection stands for, the new one stands for it with the command, if that was accepted, and
 -- else for the same history
 abbrev pub Follows : {A : Type 0} → Connected → Command → Result A Refusal → Connected → Type 0
-Follows old command result new =
-    (commands : List Command) → StandsFor old commands → StandsFor new (commands_with commands command result)
+Follows old command result new = FollowsBy (StandsFor old) command result (StandsFor new)
 
 -- whatever history the connection stands for, the command is accepted after it
 abbrev pub Accepts : Connected → Command → Type 0
 Accepts old command = Gives old (λ settings commands. connection_accepts settings commands command) true
 
--- a connection obeys a command if it gives the answer to it, unless it is out of memory, and then stands for what
--- follows; its settings stay, a refusal changes nothing, and it is out of memory only if the command is accepted
-pub record Obeys {A : Type 0} (old : Connected) (command : Command) (tell : List PromiseState → A → Reply)
-    (result : Result A Refusal) (new : Connected) : Type 0 where
-  pub answer : ¬ IsErrOf result NoMemory → Answers old command tell result
-  pub stands : Follows old command result new
-  pub settings : new.unsent.settings ≡ old.unsent.settings
-  pub refused : OnErr result (new ≡ old)
-  pub no_memory_last : IsErrOf result NoMemory → Accepts old command
+-- a connection obeys a command, as what stands for histories does, if its result says the answer of a connection
+abbrev pub Obeys : {A : Type 0} → Connected → Command → (List PromiseState → A → Reply) → Result A Refusal → Connected
+    → Type 0
+Obeys old command tell result new =
+    ObeysBy StandsFor (λ connection. connection.unsent.settings) connection_limit (Answers old command tell result)
+    old command result new
 
 -- what a call took away begins where those that were gone end, is as long as it says, ends where those that are gone
 -- end now, and has this outcome

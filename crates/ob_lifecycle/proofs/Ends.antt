@@ -351,10 +351,9 @@ shrunk_connection old new shrinks commands stands =
     let is : new ≡ record old { unsent = record old.unsent { room = new.unsent.room } } =
     shrinks.same ∙ ap (λ unsent. record old { unsent = unsent }) shrinks.unsent.same in
     subst (λ connection. ConnectionStandsFor connection commands) (sym is) (record {
-      accepted = stands.accepted;
       past = stands.past;
       forgotten = stands.forgotten;
-      leaves = stands.leaves;
+      as_buffer = record { accepted = stands.as_buffer.accepted; leaves = stands.as_buffer.leaves };
     })
 
 shrunk_settings : (old new : Connected) → Shrinks old new → new.unsent.settings ≡ old.unsent.settings

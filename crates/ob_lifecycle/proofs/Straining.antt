@@ -194,7 +194,7 @@ stop_told : {A : Type 0} (old new : Connected) (command : Command) (tell : List 
 stop_told old new command tell value change said obeys commands stands =
     let settings = old.unsent.settings in
     let reply : tell (promises_after settings commands) value ≡ reply_of settings commands command =
-    said_by _ _ _ (obeys.answer (never_memory value) commands stands) in
+    said_by _ _ _ ((obeys.answer (never_memory value)).says commands stands) in
     ap is_stop (sym (said (promises_after settings commands)) ∙ ap (λ r. r.change) reply) ∙ is_stop_turn _ _
 
 pub strains_accepted : {A : Type 0} (old : Managed) (connection : Connected) (command : Command) (tell : List PromiseState → A → Reply)

@@ -71,7 +71,7 @@ first_of_fault : (managed : Managed) (message : Message) (new : Connected) (even
     → ¬ (Some fault ≡ Some (Refused NoMemory)) → Some fault ≡ fault_of_write message (opened_as managed) events
 first_of_fault managed message new events stands own (Refused refusal) is no_end no_cap memory =
     let first : Some refusal ≡ first_refusal_within connection_limit managed.connection.unsent.settings.estimate (commands_in events) (Write message) =
-    refused_says _ refusal _ (is.answer (some_memory refusal memory) (commands_in events) stands.commands) in
+    refused_says _ refusal _ ((is.answer (some_memory refusal memory)).says (commands_in events) stands.commands) in
     ap (option_map (λ refusal. Refused refusal)) first ∙ others_first _ _ _ _ _ own
 first_of_fault managed message new events stands own Finishing is no_end no_cap memory = absurd (no_end refl)
 first_of_fault managed message new events stands own Full is no_end no_cap memory = absurd (no_cap refl)
@@ -109,7 +109,7 @@ answers_first (Some other) refusal reply is = cc
 refusing_obeys : (old : Connected) (message : Message) (refusal : Refusal) → Refuses old (Write message) (Some refusal)
     → ¬ (Some refusal ≡ Some NoMemory) → Obeys old (Write message) written_reply (declined refusal) old
 refusing_obeys old message refusal first other = record {
-  answer = λ memory commands stands. answers_first _ refusal _ (first commands stands);
+  answer = λ memory. record { says = λ commands stands. answers_first _ refusal _ (first commands stands) };
   stands = λ commands stands. stands;
   settings = refl;
   refused = refl;
@@ -132,7 +132,7 @@ pub first_of_put : {E : Type 0} (why : E → WriteFault) (managed : Managed) (me
     → ¬ (fault_in why result ≡ Some (Refused NoMemory)) → Gives managed (fault_of_write message) (fault_in why result)
 first_of_put why managed message new (Ok written) own wrote refused no_end no_cap memory events stands =
     let none : None ≡ first_refusal_within connection_limit managed.connection.unsent.settings.estimate (commands_in events) (Write message) =
-    accepted_says _ _ _ (wrote.answer (never_memory written) (commands_in events) stands.commands) in
+    accepted_says _ _ _ ((wrote.answer (never_memory written)).says (commands_in events) stands.commands) in
     ap (option_map (λ refusal. Refused refusal)) none ∙ others_first _ _ _ _ _ (own events stands)
 first_of_put why managed message new (Err left) own wrote refused no_end no_cap memory events stands =
     first_of_fault managed message new events stands (own events stands) (why left) refused no_end no_cap memory
@@ -190,14 +190,14 @@ pub written_open : (old new : Connected) (message : Message) (written : Written)
     → is_closed commands ≡ false
 written_open old new message written commands stands wrote =
     open_by _ _ (accepted_says (first_refusal_within connection_limit old.unsent.settings.estimate commands (Write message)) _ _
-    (wrote.answer (never_memory written) commands stands))
+    ((wrote.answer (never_memory written)).says commands stands))
 
 pub written_fine : (old new : Connected) (message : Message) (written : Written) (commands : List Command)
     → ConnectionStandsFor old commands → Obeys old (Write message) written_reply (accepted written) new
     → is_oversize old.unsent.settings.estimate message ≡ false
 written_fine old new message written commands stands wrote =
     fine_by _ _ _ (accepted_says (first_refusal_within connection_limit old.unsent.settings.estimate commands (Write message)) _ _
-    (wrote.answer (never_memory written) commands stands))
+    ((wrote.answer (never_memory written)).says commands stands))
 
 -- the numbers have room for a message that is not refused by us
 past_by : (closed finishing oversize past : Bool) → None ≡ own_fault_by closed finishing oversize past → closed ≡ false
@@ -217,7 +217,7 @@ may_count : (managed : Managed) (message : Message) → StandsForSome managed �
     → is_oversize managed.connection.unsent.settings.estimate message ≡ false
     → is_untold managed.tally.accepted (counted_bytes managed.connection.unsent.settings.estimate message) ≡ false
 may_count managed message some own commands stands unclosed fine =
-    let same : is_closed (commands_in some.0) ≡ false = sym some.1.commands.leaves.closed ∙ stands.leaves.closed ∙ unclosed in
+    let same : is_closed (commands_in some.0) ≡ false = sym some.1.commands.as_buffer.leaves.closed ∙ stands.as_buffer.leaves.closed ∙ unclosed in
     let size = counted_bytes managed.connection.unsent.settings.estimate message in
     ap (λ t. is_untold t.accepted size) some.1.tally
     ∙ or_right _ _ (past_by _ _ _ _ (own some.0 some.1) same fine)

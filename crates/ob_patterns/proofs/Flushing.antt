@@ -33,7 +33,7 @@ module _ {old between : Connected} {message : Message} {written : Written}
   -- an accepted write found the connection open
   was_open : (commands : List Command) → StandsFor old commands → is_closed commands ≡ false
   was_open commands stands =
-      open_if_answered (is_closed commands) _ _ _ (writes.answer (λ wants. absurd (cc)) commands stands)
+      open_if_answered (is_closed commands) _ _ _ ((writes.answer (λ wants. absurd (cc))).says commands stands)
 
   module _ {new : Connected} where
     -- so the flush after it is not refused
@@ -41,7 +41,7 @@ module _ {old between : Connected} {message : Message} {written : Written}
         Obeys between Flush flushed_reply result new × ¬ IsErrOf result NoMemory) → (commands : List Command) →
         StandsFor old commands → ⊥
     none_refused refusal flushes commands stands =
-        let said = flushes.0.answer flushes.1 (commands ++ Write message ∷ []) (writes.stands commands stands) in
+        let said = (flushes.0.answer flushes.1).says (commands ++ Write message ∷ []) (writes.stands commands stands) in
         let shut = closed_if_refused (is_closed (commands ++ Write message ∷ [])) refusal _ said in
         let unclosed = closed_more commands (Write message) (was_open commands stands) in
         cc
@@ -66,4 +66,4 @@ module _ {old between : Connected} {message : Message} {written : Written}
 pub refuses : {old new : Connected} {message : Message} {refusal : Refusal} →
     (let result : Result Written Refusal = Err refusal in Obeys old (Write message) written_reply result new) →
     RefusesWrite old message refusal
-refuses writes other commands stands = writes.answer (λ wants. other (cc)) commands stands
+refuses writes other commands stands = (writes.answer (λ wants. other (cc))).says commands stands

@@ -18,7 +18,7 @@ closed_at_end commands cause = let more = list_any-append is_close commands (Clo
 -- each history that a connection stands for tells alike whether it is closed
 pub alike_closed : {now : Connected} {commands others : List Command} → StandsFor now commands → StandsFor now others →
     is_closed commands ≡ is_closed others
-alike_closed stands too = sym stands.leaves.closed ∙ too.leaves.closed
+alike_closed stands too = sym stands.as_buffer.leaves.closed ∙ too.as_buffer.leaves.closed
 
 -- a connection that was given up is closed
 pub given_up_is_closed : {old new : Connected} {cause : Cause} {taken : Taken} → StandsForSome old →

@@ -11,8 +11,8 @@ use Rattle.ob_types.specs.declared.refusal.Refusal.{Refusal}
 use Rattle.ob_types.specs.declared.refusal.Refusal.TheVariants.{NoMemory}
 use Rattle.ob_types.specs.Limits.{inline_settlements}
 use Rattle.ob_types.specs.declared.promise.Outcome.{Outcome}
-use Rattle.ob_seq.specs.Answer.{answer_to, commands_with, is_accepted, are_accepted, answer_within, buffer_limit}
-use Rattle.ob_seq.specs.Answer.{commands_after_within}
+use Rattle.ob_seq.specs.Answer.{answer_to, commands_with, is_accepted, answer_within, buffer_limit}
+use Rattle.ob_seq.specs.Answer.{are_accepted_within, commands_after_within, is_accepted_within}
 use Rattle.ob_seq.specs.Effect.{rows_after}
 use Rattle.ob_seq.specs.Looks.{PendingEntry, entry_of}
 use Rattle.ob_seq.specs.Rows.{Settings, line, unflushed}
@@ -39,15 +39,43 @@ pub record Leaves (buffer : Pending) (commands : List Command) : Type 0 where
   pub promises : buffer.promises ≡ map (λ row. row.promise) (rows_after buffer.settings.estimate commands)
   pub word : buffer.word ≡ word_after buffer.settings commands
 
--- a buffer stands for a history exactly if each command of it was accepted, and the buffer is what they leave
-pub record StandsFor (buffer : Pending) (commands : List Command) : Type 0 where
-  pub accepted : are_accepted buffer.settings [] commands ≡ true
+-- a buffer stands for a history under a limit on writes exactly if each command of it was accepted, and the buffer is
+-- what they leave
+pub record StandsForWithin (limit : Option ℕ) (buffer : Pending) (commands : List Command) : Type 0 where
+  pub accepted : are_accepted_within limit buffer.settings [] commands ≡ true
   pub leaves : Leaves buffer commands
+
+-- a buffer stands for a history under the limit of a buffer
+abbrev pub StandsFor : Pending → List Command → Type 0
+StandsFor buffer commands = StandsForWithin buffer_limit buffer commands
+
+-- whatever history stands so, under these settings, the value is what this gives after it
+abbrev pub GivesBy : {A : Type 0} → (List Command → Type 0) → Settings → (Settings → List Command → A) → A → Type 0
+GivesBy Stands settings after value = (commands : List Command) → Stands commands → value ≡ after settings commands
+
+-- whatever history stood so, with the command, if the result is no refusal, and else without it, it stands so now
+abbrev pub FollowsBy : {A : Type 0} → (List Command → Type 0) → Command → Result A Refusal → (List Command → Type 0)
+    → Type 0
+FollowsBy Stood command result Stands =
+    (commands : List Command) → Stood commands → Stands (commands_with commands command result)
+
+-- what stands for histories obeys a command if it gives the answer to it, unless it is out of memory, and then stands for
+-- what follows; its settings stay, a refusal changes nothing, and it is out of memory only if the command is accepted
+-- under its limit on writes
+pub record ObeysBy {S A : Type 0} (Stands : S → List Command → Type 0) (settings_of : S → Settings) (limit : Option ℕ)
+    (Answers : Type 0) (old : S) (command : Command) (result : Result A Refusal) (new : S)
+    : Type 0 where
+  pub answer : ¬ IsErrOf result NoMemory → Answers
+  pub stands : FollowsBy (Stands old) command result (Stands new)
+  pub settings : settings_of new ≡ settings_of old
+  pub refused : OnErr result (new ≡ old)
+  pub no_memory_last : IsErrOf result NoMemory
+      → GivesBy (Stands old) (settings_of old)
+      (λ settings commands. is_accepted_within limit settings commands command) true
 
 -- whatever history the buffer stands for, the value is what this gives after it
 abbrev pub Gives : {A : Type 0} → Pending → (Settings → List Command → A) → A → Type 0
-Gives buffer after value =
-    (commands : List Command) → StandsFor buffer commands → value ≡ after buffer.settings commands
+Gives buffer after value = GivesBy (StandsFor buffer) buffer.settings after value
 
 -- whatever history the old buffer stands for, the result is the answer to one more command after it
 abbrev pub Answers : Pending → Command → Result Reply Refusal → Type 0
@@ -60,17 +88,12 @@ Accepts old command = Gives old (λ settings commands. is_accepted settings comm
 -- whatever history the old buffer stands for, the new one stands for it with the command, if the result is a reply, and
 -- else for the same history
 abbrev pub Follows : Pending → Command → Result Reply Refusal → Pending → Type 0
-Follows old command result new =
-    (commands : List Command) → StandsFor old commands → StandsFor new (commands_with commands command result)
+Follows old command result new = FollowsBy (StandsFor old) command result (StandsFor new)
 
--- a buffer obeys a command if it gives the answer to it, unless it is out of memory, and then holds what follows; its
--- settings stay, a refusal changes nothing, and it is out of memory only if the command is accepted
-pub record Obeys (old : Pending) (command : Command) (result : Result Reply Refusal) (new : Pending) : Type 0 where
-  pub answer : ¬ IsErrOf result NoMemory → Answers old command result
-  pub stands : Follows old command result new
-  pub settings : new.settings ≡ old.settings
-  pub refused : OnErr result (new ≡ old)
-  pub no_memory_last : IsErrOf result NoMemory → Accepts old command
+-- a buffer obeys a command, as what stands for histories does, if its result is the answer of a buffer
+abbrev pub Obeys : Pending → Command → Result Reply Refusal → Pending → Type 0
+Obeys old command result new =
+    ObeysBy StandsFor (λ buffer. buffer.settings) buffer_limit (Answers old command result) old command result new
 
 -- whether a command never runs out of memory
 abbrev pub takes_no_memory : Command → Bool

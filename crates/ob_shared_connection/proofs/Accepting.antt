@@ -24,7 +24,7 @@ use Rattle.ob_shared_connection.specs.Values.{Adds, CountsAs, HoldsFor, Passes, 
 pub accepts_obeyed : {A : Type 0} (old new : Connected) (command : Command) (tell : List PromiseState → A → Reply)
     (result : Result A Refusal) → IsOk result → Obeys old command tell result new → Accepts old command
 accepts_obeyed old new command tell (Ok answer) ok obeys commands stands =
-    ap (λ (told : Result Reply Refusal). is_ok told) (obeys.answer (λ never. cc never) commands stands)
+    ap (λ (told : Result Reply Refusal). is_ok told) ((obeys.answer (λ never. cc never)).says commands stands)
 accepts_obeyed old new command tell (Err refusal) ok obeys commands stands = absurd (cc ok)
 
 -- a connection that refuses nothing accepts

@@ -47,7 +47,7 @@ accepted_if_in_front old n before sends locks in_front =
     let accepted : connection_accepts_all old.settings (commands_of old.seen ++ between) ≡ true =
     subst (λ (commands : List Command). connection_accepts_all old.settings commands ≡ true) seen
     (subst (λ (opened : Settings). connection_accepts_all opened (commands_of before.handle.seen) ≡ true) settings
-    stands.accepted) in
+    stands.as_buffer.accepted) in
     let leaves : list_all leaves_flushed between ≡ true =
     list_all-map leaves_flushed (λ (call : Call). call.command) locks.between
     ∙ list_all-from_AllPass (λ (call : Call). leaves_flushed call.command) locks.between
@@ -69,7 +69,7 @@ taken_if_in_front old n result new sends under in_front =
     (sym under.locks.left.settings_are) (accepted_if_in_front old n before sends under.locks in_front) in
     accepted_is_ok
     (taken_reply (promises_after before.connected.unsent.settings (commands_of before.handle.seen))) result _
-    (under.does.does.obeys.answer under.does.does.frugal (commands_of before.handle.seen) stands) now
+    ((under.does.does.obeys.answer under.does.does.frugal).says (commands_of before.handle.seen) stands) now
 
 -- what is gathered are bytes in front
 pub gathered_in_front : (settings : Settings) (commands : List Command) (max_count max_bytes : ℕ)

@@ -5,4 +5,4 @@ use Rattle.ob_connection.proofs.connection.Connection.current.Goals as goal
 pub returns : goal.returns
 returns c = rw (← c.self.view_is) (λ commands stands.
     let unsent = c.self.inside.contents in
-    rw (c.current.ensures) (current_is (whole stands.past unsent) commands stands.leaves))
+    rw (c.current.ensures) (current_is (whole stands.past unsent) commands stands.as_buffer.leaves))

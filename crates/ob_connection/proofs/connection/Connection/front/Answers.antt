@@ -11,7 +11,7 @@ returns-then-line_count-eq0 c = rw (← c.self.view_is) (λ commands stands.
     let held = whole stands.past unsent in
     let none : length held.line ≡ 0 =
     omega (arith, length-map unsent.line pending_entry, c.line_count.ensures, c.if-line_count-eq0.true) in
-    rw (no_front_promise held commands stands.leaves none))
+    rw (no_front_promise held commands stands.as_buffer.leaves none))
 
 pub returns : goal.returns
 returns c = rw (← c.self.view_is) (λ commands stands.
@@ -20,4 +20,4 @@ returns c = rw (← c.self.view_is) (λ commands stands.
     let past : Past (connected_of c.self.inside) = record { outcomes = stands.past; count = stands.forgotten } in
     let some : 0 < length held.line =
     omega (arith, length-map unsent.line pending_entry, c.line_count.ensures, c.if-line_count-eq0.false) in
-    rw (front_promise_is held commands (fronted held commands stands.leaves some), front_id_there past))
+    rw (front_promise_is held commands (fronted held commands stands.as_buffer.leaves some), front_id_there past))

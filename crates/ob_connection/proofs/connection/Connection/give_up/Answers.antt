@@ -10,7 +10,7 @@ unreachable-requires c =
     let some = c.stands_for_some_commands.ensures in
     fails_line c.args.cause c.in_default.field-0 some.1 c.in_ok-ask_open.ensures.open
     (ap (told_by (taken_reply (promises_after c.args.self.now.unsent.settings some.0))) (sym c.in_default.is)
-    ∙ c.fail_flushed.ensures.obeys.answer c.fail_flushed.ensures.frugal some.0 some.1)
+    ∙ (c.fail_flushed.ensures.obeys.answer c.fail_flushed.ensures.frugal).says some.0 some.1)
 
 pub unreachable-requires-in_default-close : goal.unreachable-requires-in_default-close
 unreachable-requires-in_default-close c =
@@ -19,7 +19,7 @@ unreachable-requires-in_default-close c =
     let between = c.fail_flushed.new.self in
     closes_then c.args.cause c.in_default-close.field-0 some.1 c.in_ok-ask_open.ensures.open
     (ap (told_by (taken_reply (promises_after between.unsent.settings all))) (sym c.in_default-close.is)
-    ∙ c.close.ensures.obeys.answer c.close.ensures.frugal all (c.in-Ok.ensures.obeys.stands some.0 some.1)
+    ∙ (c.close.ensures.obeys.answer c.close.ensures.frugal).says all (c.in-Ok.ensures.obeys.stands some.0 some.1)
     ∙ ap (λ settings. answer_of_connection settings all (Close c.args.cause)) c.in-Ok.ensures.obeys.settings)
 
 pub returns-clause-gives_up : goal.returns-clause-gives_up

@@ -9,4 +9,4 @@ returns c = rw (← c.self.view_is) (λ commands stands.
     let unsent = c.self.inside.contents in
     rw (c.before_unwritable.ensures, c.before_writable.ensures, c.current_progress.ensures, c.total.ensures)
     (rw (c.line_count.ensures, c.word.ensures, ← length-map unsent.line pending_entry)
-    (seen_is (whole stands.past unsent) commands stands.leaves)))
+    (seen_is (whole stands.past unsent) commands stands.as_buffer.leaves)))

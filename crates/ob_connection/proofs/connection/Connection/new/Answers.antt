@@ -11,7 +11,11 @@ opened settings = record { unsent = nothing_unsent settings; gone = 0 }
 
 -- it stands for no commands
 begins : (settings : Settings) → StandsFor (opened settings) []
-begins settings = record { accepted = refl; past = []; forgotten = refl; leaves = leaves_at_start settings }
+begins settings = record {
+  past = [];
+  forgotten = refl;
+  as_buffer = record { accepted = refl; leaves = leaves_at_start settings };
+}
 
 pub returns-clause-stands : goal.returns-clause-stands
 returns-clause-stands c = rw c.new.ensures (begins (record { marks = c.args.marks; estimate = c.args.estimate }))

@@ -48,7 +48,7 @@ told_late now id {state} late all within is commands stands =
     let few : id < length (held past).promises = omega (arith, ids_are past, all, within) in
     ap (λ one. Some (waiting_status one)) (is stands.past ∙ ap (state_at (held past)) here)
     ∙ behind now.gone id late (state_at (held past) id)
-    ∙ sym (told now.gone id (held past) commands stands.leaves few)
+    ∙ sym (told now.gone id (held past) commands stands.as_buffer.leaves few)
 
 pub returns-then-id-self : goal.returns-then-id-self
 returns-then-id-self c = rw (← c.self.view_is) (λ commands stands.
@@ -59,7 +59,7 @@ returns-then-id-self c = rw (← c.self.view_is) (λ commands stands.
     omega (arith, ids_are past, c.accepted_writes.ensures.count, ap accepted_writes c.self.view_is, c.if-id-accepted_writes.false) in
     let settled = gone_settled stands.past _ c.args.id (omega (arith, early, stands.forgotten)) in
     before c.self.inside.gone c.args.id (state_at now c.args.id) settled.0 settled.1 early
-    ∙ sym (told c.self.inside.gone c.args.id now commands stands.leaves within))
+    ∙ sym (told c.self.inside.gone c.args.id now commands stands.as_buffer.leaves within))
 
 pub returns : goal.returns
 returns c = rw (c.of.ensures, ← c.self.view_is)

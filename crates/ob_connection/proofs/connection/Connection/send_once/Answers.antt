@@ -36,7 +36,7 @@ unreachable-requires g c =
     (offered_within c.args.self.now commands some.1 c.args.max_count c.args.max_bytes c.in_ok-bytes.bytes
     (as_taken _ c.in_ok-bytes.ensures.taken c.offer-offer.ensures.within))
     (ap (told_by (taken_reply (promises_after settings commands))) (sym c.in_default.is)
-    ∙ c.take_sent.ensures.obeys.answer c.take_sent.ensures.frugal commands some.1)
+    ∙ (c.take_sent.ensures.obeys.answer c.take_sent.ensures.frugal).says commands some.1)
 
 pub returns-clause-sends : goal.returns-clause-sends
 returns-clause-sends g c = record {
