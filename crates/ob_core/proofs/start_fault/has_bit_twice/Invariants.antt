@@ -1,6 +1,6 @@
 use Rattle.std.proofs.Common.{◌≡◌, ◌∷◌, map, drop}
 use Rattle.ob_core.specs.World.{any_overlap, holders_of}
-use Rattle.ob_core.proofs.grant.has_bit_twice.Given as goal
+use Rattle.ob_core.proofs.start_fault.has_bit_twice.Given as goal
 
 -- the mask of what is taken overlaps what is left as all masks overlap one another
 abbrev pub invariant-loop-start : goal.invariant-loop-start

@@ -1,6 +1,6 @@
 use Rattle.std.proofs.Common.{sym, ◌∙◌, rules}
 use Rattle.ob_core.proofs.Masks.{masks_more, masks_shared}
-use Rattle.ob_core.proofs.grant.has_bit_twice.Goals as goal
+use Rattle.ob_core.proofs.start_fault.has_bit_twice.Goals as goal
 
 pub loop-start-preserved : goal.loop-start-preserved
 loop-start-preserved c =
