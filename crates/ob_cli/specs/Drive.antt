@@ -12,7 +12,7 @@ use Rattle.ob_types.specs.declared.message.Message.TheVariants as message
 use Rattle.ob_seq.specs.Effect.{greatest}
 use Rattle.ob_transport.specs.declared.script.SinkStep.{SinkStep}
 use Rattle.ob_transport.specs.declared.script.SinkStep.TheVariants as step
-use Rattle.ob_script.specs.Reading.{any_32, any_64, any_mark, up_to, LineKind, Table, row, row_if, Grammar}
+use Rattle.ob_script.specs.Reading.{any_32, any_flag, any_index, any_64, any_block, any_mark, up_to, LineKind, Table, row, row_if, Grammar}
 use Rattle.ob_script.specs.Reading.{line_reading}
 use Rattle.ob_script.specs.Tracing.{eight_hex, number_line}
 use Rattle.ob_script.specs.declared.reading.range.Range.{Range}
@@ -52,7 +52,7 @@ command_line writer given = writer_line writer (action.Command given)
 -- the kind of line that a word begins
 abbrev pub drive_kind : DriveWord → LineKind DriveLine
 drive_kind word.Blocks =
-    row (codes "b") (any_writer ∷ up_to 1048576 ∷ record { least = 1; greatest = 1024 } ∷ [])
+    row (codes "b") (any_writer ∷ any_block ∷ record { least = 1; greatest = 1024 } ∷ [])
     (λ number. writer_line (number 0) (action.Blocks (number 1) (number 2)))
 drive_kind word.Region =
     row (codes "r") (any_writer ∷ any_64 ∷ [])
@@ -65,7 +65,7 @@ drive_kind word.Cancel =
     row (codes "x") (any_writer ∷ any_32 ∷ [])
     (λ number. command_line (number 0) (command.Cancel (record { 0 = number 1 })))
 drive_kind word.UserBit =
-    row (codes "u") (any_writer ∷ up_to 255 ∷ up_to 1 ∷ [])
+    row (codes "u") (any_writer ∷ any_index ∷ any_flag ∷ [])
     (λ number. command_line (number 0) (command.UserBit (number 1) (number 2 == 1)))
 drive_kind word.SetMarks =
     row_if (codes "m") (any_writer ∷ any_mark ∷ any_mark ∷ [])

@@ -24,7 +24,7 @@ use Rattle.ob_history.specs.Call.{call_answer, history_after}
 use Rattle.ob_history.specs.History.{History, new_history, accepted_commands}
 use Rattle.ob_history.specs.Seen.{seen_now}
 use Rattle.ob_history.specs.declared.receipt.Receipt.{Receipt}
-use Rattle.ob_script.specs.Reading.{any_32, any_64, any_mark, up_to, LineKind, Table, row, row_if, Grammar}
+use Rattle.ob_script.specs.Reading.{any_32, any_flag, any_index, any_64, any_block, any_mark, LineKind, Table, row, row_if, Grammar}
 use Rattle.ob_script.specs.Reading.{line_reading}
 use Rattle.ob_script.specs.Tracing.{change_text, words_text, Language, Texts}
 use Rattle.ob_cli.specs.declared.cli.options.Options.{Options}
@@ -51,7 +51,7 @@ run_words =
 
 -- the kind of line that a word begins
 abbrev pub run_kind : RunWord → LineKind RunLine
-run_kind word.Block = row (codes "b") (up_to 1048576 ∷ []) (λ number. line.Block (number 0))
+run_kind word.Block = row (codes "b") (any_block ∷ []) (λ number. line.Block (number 0))
 run_kind word.Region =
     row (codes "r") (any_64 ∷ []) (λ number. line.Command (command.Write (message.Region (number 0))))
 run_kind word.Other =
@@ -66,12 +66,12 @@ run_kind word.Progress = row (codes "p") (any_64 ∷ []) (λ number. line.Comman
 run_kind word.Cancel =
     row (codes "x") (any_32 ∷ []) (λ number. line.Command (command.Cancel (record { 0 = number 0 })))
 run_kind word.FailFlushed =
-    row (codes "fl") (any_32 ∷ up_to 1 ∷ [])
+    row (codes "fl") (any_32 ∷ any_flag ∷ [])
     (λ number. line.Command (command.FailFlushed (record { 0 = number 0 }) (number 1 == 1)))
 run_kind word.Close =
     row (codes "cl") (any_32 ∷ []) (λ number. line.Command (command.Close (record { 0 = number 0 })))
 run_kind word.UserBit =
-    row (codes "u") (up_to 255 ∷ up_to 1 ∷ []) (λ number. line.Command (command.UserBit (number 0) (number 1 == 1)))
+    row (codes "u") (any_index ∷ any_flag ∷ []) (λ number. line.Command (command.UserBit (number 0) (number 1 == 1)))
 run_kind word.SetMarks =
     row_if (codes "m") (any_mark ∷ any_mark ∷ []) (λ number. marks_line line.Command (water_mark_of (number 0) (number 1)))
 run_kind word.Look = row (codes "?") [] (λ number. line.Look)

@@ -16,7 +16,7 @@ use Rattle.ob_core.specs.declared.event.Event.{Event}
 use Rattle.ob_core.specs.declared.event.Event.TheVariants.{Added, Subtracted, BitSet, BitCleared, ReadWord, ReadTotal}
 use Rattle.ob_core.specs.declared.event.Event.TheVariants.{Nothing, Refused}
 use Rattle.ob_core.specs.declared.lane_start.LaneStart.{LaneStart}
-use Rattle.ob_script.specs.Reading.{any_32, up_to, LineKind, Table, row, Grammar, line_reading}
+use Rattle.ob_script.specs.Reading.{any_32, any_flag, any_index, LineKind, Table, row, Grammar, line_reading}
 use Rattle.ob_script.specs.Tracing.{change_text, words_text, Language, Texts}
 use Rattle.ob_cli.specs.declared.turns.line.CoreLine.{CoreLine}
 use Rattle.ob_cli.specs.declared.turns.line.CoreLine.TheVariants as line
@@ -39,7 +39,7 @@ core_kind word.Charge =
     row (codes "c") (any_32 ∷ any_32 ∷ []) (λ number. turn_line (number 0) (ask.Charge (number 1)))
 core_kind word.Discharge = row (codes "d") (any_32 ∷ []) (λ number. turn_line (number 0) ask.Discharge)
 core_kind word.Bit =
-    row (codes "u") (any_32 ∷ up_to 255 ∷ up_to 1 ∷ [])
+    row (codes "u") (any_32 ∷ any_index ∷ any_flag ∷ [])
     (λ number. turn_line (number 0) (ask.Bit (number 1) (number 2 == 1)))
 core_kind word.Word = row (codes "w") (any_32 ∷ []) (λ number. turn_line (number 0) ask.Word)
 core_kind word.Total = row (codes "t") (any_32 ∷ []) (λ number. turn_line (number 0) ask.Total)

@@ -74,6 +74,17 @@ any_64 = up_to 18446744073709551615
 abbrev pub any_mark : Range
 any_mark = up_to 2147483647
 
+-- the bytes that a block of a script may have
+abbrev pub any_block : Range
+any_block = up_to 1048576
+
+-- the numbers that the index of a bit may be, and the two of a flag
+abbrev pub any_index : Range
+any_index = up_to 255
+
+abbrev pub any_flag : Range
+any_flag = up_to 1
+
 -- whether a range holds a number
 abbrev pub holds : Range → ℕ → Bool
 holds range number = nat_le range.least number && nat_le number range.greatest

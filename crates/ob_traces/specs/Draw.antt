@@ -31,11 +31,12 @@ scale_of shown high = record {
   most = fold (λ most line. greater most line.total) high shown;
 }
 
--- where the line of a place begins, from the left
+-- where the line of a place begins, in tenths of a pixel from the left: the lines share 752 pixels, from the 112th on
 abbrev pub x_of : Scale → ℕ → ℕ
 x_of scale place = 1120 + nearest (7520 * place) (greater scale.lines 1)
 
--- where *n* bytes stand, from the top
+-- where *n* bytes stand, in tenths of a pixel from the top: none at 350 pixels, and 306 above it 108 hundredths of the most
+-- that is shown
 abbrev pub y_of : Scale → ℕ → ℕ
 y_of scale total = 3500 - nearest (306000 * total) (108 * greater scale.most 1)
 

@@ -1,6 +1,19 @@
 use crate::drawing::numbers::{greater, nearest};
 use crate::traces::line::TraceLine;
 
+/// How far the axis of bytes stands from the left, in tenths of a pixel.
+const LEFT: u64 = 1120;
+
+/// How long the axis of lines is, in tenths of a pixel.
+const WIDTH: u64 = 7520;
+
+/// How far the axis of lines stands from the top, in tenths of a pixel: at 350 pixels, where `piece.rt` draws it and
+/// `docs/draw-marks` has its bottom.
+const BOTTOM: u64 = 3500;
+
+/// How long the axis of bytes is, in tenths of a pixel.
+const HEIGHT: u64 = 3060;
+
 /// Where lines and bytes stand in a picture.
 #[derive(Clone, Copy)]
 pub struct Scale {
@@ -35,18 +48,18 @@ impl Scale {
         requires near { place ≤ 8589934592 }
         ensures { result ≡ x_of self place }
     {
-        1120 + nearest(7520 * place, u64::from(greater(self.lines, 1)))
+        LEFT + nearest(WIDTH * place, u64::from(greater(self.lines, 1)))
     }
 
-    /// Where `total` bytes stand, in tenths of a pixel from the top: 0 at 350 pixels, where `piece.rt` has the axis and
-    /// `docs/draw-marks` its bottom.
+    /// Where `total` bytes stand, in tenths of a pixel from the top. The axis has room for 108 hundredths of the most that is
+    /// shown.
     pub fn y(self, total: u32) -> u64
         ensures { result ≡ y_of self total }
     {
         let height = nearest(
-            306000 * u64::from(total),
+            HEIGHT * 100 * u64::from(total),
             108 * u64::from(greater(self.most, 1)),
         );
-        3500_u64.saturating_sub(height)
+        BOTTOM.saturating_sub(height)
     }
 }
