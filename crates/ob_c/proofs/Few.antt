@@ -10,8 +10,8 @@ use Rattle.ob_connection.specs.Calls.{most_pieces}
 use Rattle.ob_shared_connection.specs.Calls.{UnderLock, Gathers, IsLook}
 use Rattle.ob_shared_connection.specs.Values.{commands_of, HandleValue}
 use Rattle.ob_shared_connection.specs.Sending.{AreInFront}
-use Rattle.ob_c.specs.Gathering.{AreAt}
-use Rattle.ob_c.specs.Numbers.{done}
+use Rattle.ob_c.specs.Calls.{AreAt}
+use Rattle.ob_c.specs.Replies.{done}
 use Rattle.ob_c.specs.Sharing.{TriesToGather}
 use Rattle.ob_c.specs.declared.pieces.Piece.{Piece}
 

@@ -12,7 +12,7 @@ use Rattle.ob_seq.proofs.Words.{cond, take_while-cons}
 use Rattle.ob_seq.proofs.Inside.Gathered.{ended, first_blocks_are, more_blocks, none_left, passed, pushed}
 use Rattle.ob_connection.specs.Connected.{Connected, Gives}
 use Rattle.ob_connection.specs.Connected.{AreFlushed}
-use Rattle.ob_c.specs.Gathering.{AreAt, gathered_as, piece_of}
+use Rattle.ob_c.specs.Calls.{AreAt, gathered_as, piece_of}
 use Rattle.ob_c.specs.declared.pieces.Piece.{Piece}
 
 -- the blocks that hold a byte, up to the first message that is no block

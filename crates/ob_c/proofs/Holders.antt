@@ -8,7 +8,7 @@ use Rattle.ob_covered.specs.contracts.cover.Cover.{the_row as cover_row}
 use Rattle.ob_lifecycle.specs.contracts.managed.ManagedConnection.{the_row as inner_row}
 use Rattle.ob_shared_connection.specs.contracts.handle.Handle.{the_row as sharer_row}
 use Rattle.ob_shared_connection.specs.contracts.transport.Transport.{the_row as sender_row}
-use Rattle.ob_c.specs.Shared.{bytes_row}
+use Rattle.ob_c.specs.Held.{bytes_row}
 use Rattle.ob_c.specs.contracts.block.Block as block
 use Rattle.ob_c.specs.contracts.budget.Budget as budget
 use Rattle.ob_c.specs.contracts.budgeted.Budgeted as budgeted

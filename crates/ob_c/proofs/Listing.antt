@@ -4,7 +4,7 @@ use Rattle.std.specs.List.{concat}
 use Rattle.std.proofs.lemmas.List.{append-nil, length-append, map-append, take-append-drop, take_more, take_more_set}
 use Rattle.std.proofs.lemmas.List.Folds.{concat-append}
 use Rattle.ob_connection.specs.Obeying.{joined}
-use Rattle.ob_c.specs.Parts.{slices_of}
+use Rattle.ob_c.specs.Calls.{slices_of}
 use Rattle.ob_c.specs.declared.parts.Part.{Part}
 
 -- what is read past the end of a list

@@ -7,7 +7,7 @@ use Rattle.ob_types.specs.declared.refusal.Refusal.{Refusal}
 use Rattle.ob_connection.specs.Connected.{Connected}
 use Rattle.ob_shared_connection.specs.Calls.{UnderLock, IsLook}
 use Rattle.ob_shared_connection.specs.Values.{MayGive, leaves_flushed, HandleValue, Held}
-use Rattle.ob_c.specs.Numbers.{accepted}
+use Rattle.ob_c.specs.Replies.{accepted}
 use Rattle.ob_c.specs.Sharing.{IsLookTried, IsMade, IsTried, MessageOf, Tries, TriesTo, TriesToLook, TriesToWithBlock, TriesToWithMemory}
 
 -- whoever sends may give what any handle may

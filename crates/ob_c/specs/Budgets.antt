@@ -29,8 +29,8 @@ use Rattle.ob_covered.specs.Cover.{CoverValue, IsFirst, HoldsAtMost, Tells, left
 use Rattle.ob_covered.specs.declared.fault.Told.{Told}
 use Rattle.ob_covered.specs.declared.fault.WriteFault.{WriteFault}
 use Rattle.ob_covered.specs.declared.fault.WriteFault.TheVariants.{Refused, OverBudget}
-use Rattle.ob_c.specs.Numbers.{accepted, already_open, bad_bounds, busy, done, no_block, no_memory, not_open, other_version, over_budget, status_in_c}
-use Rattle.ob_c.specs.Obeying.{ObeysFrugally, Relays}
+use Rattle.ob_c.specs.Replies.{accepted, already_open, bad_bounds, busy, done, no_block, no_memory, not_open, other_version, over_budget, status_in_c}
+use Rattle.ob_c.specs.Calls.{ObeysFrugally, Relays}
 use Rattle.ob_c.specs.Replies.{cancelled_in_c, changed_in_c, flushed_in_c, removed_in_c, taken_in_c, written_in_c}
 use Rattle.ob_c.specs.declared.budgeted_looks.Standing.{Standing}
 use Rattle.ob_c.specs.declared.budgets.BudgetTold.{BudgetTold}

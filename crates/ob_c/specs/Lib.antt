@@ -1,16 +1,9 @@
-pub mod Blocks
 pub mod Budgets
-pub mod Gathering
+pub mod Calls
 pub mod Held
 pub mod Looks
 pub mod Managing
-pub mod Numbers
-pub mod Obeying
-pub mod Opening
-pub mod Parts
-pub mod Puts
 pub mod Reaching
 pub mod Replies
-pub mod Shared
 pub mod Sharing
 pub mod Within

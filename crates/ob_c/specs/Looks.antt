@@ -13,8 +13,8 @@ use Rattle.ob_connection.specs.Connected.{unflushed_count_after, waiting_count_a
 use Rattle.ob_connection.specs.declared.look.Look.{Look as LookReply}
 use Rattle.ob_connection.specs.declared.status.Status.{Status}
 use Rattle.ob_connection.specs.declared.status.Status.TheVariants.{Waiting, Fixed, Settled, SettledBefore}
-use Rattle.ob_c.specs.Numbers.{done, not_open, outcome_number, cause_number}
-use Rattle.ob_c.specs.Obeying.{Relays}
+use Rattle.ob_c.specs.Replies.{done, not_open, outcome_number, cause_number}
+use Rattle.ob_c.specs.Calls.{Relays}
 use Rattle.ob_c.specs.declared.views.Counts.{Counts}
 use Rattle.ob_c.specs.declared.views.Current.{Current}
 use Rattle.ob_c.specs.declared.views.Front.{Front}

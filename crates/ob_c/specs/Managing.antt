@@ -22,8 +22,8 @@ use Rattle.ob_lifecycle.specs.declared.fault.WriteFault.TheVariants.{Refused, Fi
 use Rattle.ob_lifecycle.specs.declared.limits.Limits.{Limits}
 use Rattle.ob_lifecycle.specs.declared.numbers.Numbers.{Numbers as NumbersReply}
 use Rattle.ob_lifecycle.specs.declared.refusals.Refusals.{Refusals as RefusalsReply}
-use Rattle.ob_c.specs.Numbers.{accepted, already_open, done, finishing, full, no_block, no_memory, not_open, status_in_c}
-use Rattle.ob_c.specs.Obeying.{ObeysFrugally, Relays}
+use Rattle.ob_c.specs.Replies.{accepted, already_open, done, finishing, full, no_block, no_memory, not_open, status_in_c}
+use Rattle.ob_c.specs.Calls.{ObeysFrugally, Relays}
 use Rattle.ob_c.specs.Replies.{cancelled_in_c, changed_in_c, flushed_in_c, removed_in_c, taken_in_c, written_in_c}
 use Rattle.ob_connection.specs.declared.replies.Flushed.{Flushed as FlushedReply}
 use Rattle.ob_connection.specs.declared.replies.Removed.{Removed as RemovedReply}
@@ -62,15 +62,15 @@ ShrinksManaged (Some old) status new =
     × ((events : List Event) → StandsFor old events → StandsFor after events) × (opened_as after ≡ opened_as old)
 
 -- the status of a write that was refused
-abbrev pub fault_number : WriteFault → ℕ
-fault_number (Refused refusal) = number_of refusal
-fault_number IsFinishing = finishing
-fault_number Full = full
+abbrev pub managed_fault_number : WriteFault → ℕ
+managed_fault_number (Refused refusal) = number_of refusal
+managed_fault_number IsFinishing = finishing
+managed_fault_number Full = full
 
 -- what a write has to report: its reply, or else the status of a handle that holds nothing, or of its refusal
 abbrev pub reported_write : Option (Result WrittenReply WriteFault) → Result WrittenReply ℕ
 reported_write None = Err not_open
-reported_write (Some (Err why)) = Err (fault_number why)
+reported_write (Some (Err why)) = Err (managed_fault_number why)
 reported_write (Some (Ok reply)) = Ok reply
 
 -- a message is written, if there is a connection, and C is told the promise or why there is none

@@ -12,7 +12,7 @@ use Rattle.ob_lifecycle.specs.contracts.managed.ManagedConnection.{the_row as in
 use Rattle.ob_shared_connection.specs.Values.{HandleValue}
 use Rattle.ob_shared_connection.specs.contracts.handle.Handle.{the_row as sharer_row}
 use Rattle.ob_shared_connection.specs.contracts.transport.Transport.{the_row as sender_row}
-use Rattle.ob_c.specs.Shared.{bytes_row}
+use Rattle.ob_c.specs.Held.{bytes_row}
 use Rattle.ob_c.specs.declared.block.Block.{Block}
 use Rattle.ob_c.specs.declared.budget.Budget.{Budget}
 use Rattle.ob_c.specs.declared.budgeted.Budgeted.{Budgeted}

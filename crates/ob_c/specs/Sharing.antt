@@ -16,8 +16,8 @@ use Rattle.ob_shared_connection.specs.Glances.{IsGlance}
 use Rattle.ob_shared_connection.specs.Sending.{AreInFront}
 use Rattle.ob_shared_connection.specs.Values.{HandleValue, Held, sharing}
 use Rattle.ob_shared_connection.specs.declared.glance.Glance.{Glance as GlanceReply}
-use Rattle.ob_c.specs.Gathering.{AreAt}
-use Rattle.ob_c.specs.Numbers.{accepted, already_open, busy, done, no_block, no_memory, not_open, status_in_c}
+use Rattle.ob_c.specs.Calls.{AreAt}
+use Rattle.ob_c.specs.Replies.{accepted, already_open, busy, done, no_block, no_memory, not_open, status_in_c}
 use Rattle.ob_c.specs.declared.pieces.Piece.{Piece}
 use Rattle.ob_c.specs.declared.tries.Glance.{Glance}
 use Rattle.ob_c.specs.declared.sends.Laid.{Laid}

@@ -18,8 +18,7 @@ use Rattle.ob_shared_connection.specs.declared.not_written.WriteFault.{WriteFaul
 use Rattle.ob_shared_connection.specs.declared.over.OverBudget.{OverBudget}
 use Rattle.ob_shared_connection.specs.declared.written.WrittenAndFlushed.{WrittenAndFlushed as WrittenAndFlushedReply}
 use Rattle.ob_c.specs.Budgets.{IsButForSeats, pressed_written_in_c, pressure_number}
-use Rattle.ob_c.specs.Numbers.{already_open, busy, done, no_memory, not_open, over_budget}
-use Rattle.ob_c.specs.Puts.{put_reply}
+use Rattle.ob_c.specs.Replies.{already_open, busy, done, no_memory, not_open, over_budget, put_reply}
 use Rattle.ob_c.specs.Replies.{written_and_flushed_in_c}
 use Rattle.ob_c.specs.declared.pressed.PressedDone.{PressedDone}
 use Rattle.ob_c.specs.declared.pressed.PressedWritten.{PressedWritten}

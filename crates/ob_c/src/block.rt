@@ -2,8 +2,7 @@
 
 ghost use Rattle.std.specs.Prelude.{◌≡◌, ℕ, List, IsSome, is_some, Option, Some, None, option_map};
 ghost use Rattle.std.specs.Borrow.{sem};
-ghost use Rattle.ob_c.specs.Held.{held};
-ghost use Rattle.ob_c.specs.Shared.{bytes_row};
+ghost use Rattle.ob_c.specs.Held.{held, bytes_row};
 
 use crate::loose::Loose;
 use bytes::Bytes;
@@ -12,6 +11,8 @@ use std::marker::Model;
 use std::ptr::null_mut;
 
 /// A block of bytes of C's, which makes it as `{0}`: none yet. The writes that share it keep its memory alive.
+///
+/// Each export takes it by `&mut`, also where the header has `const`: what a pointer owns can be reached from there alone.
 #[repr(C)]
 #[derive(Drop)]
 pub struct Block {

@@ -1,7 +1,7 @@
 //! Blocks of bytes that several writes share.
 
 ghost use Rattle.std.specs.Prelude.{◌≡◌};
-ghost use Rattle.ob_c.specs.Blocks.{IsLetGo, IsMadeOf, IsPieceOf, IsSharedOf};
+ghost use Rattle.ob_c.specs.Calls.{IsLetGo, IsMadeOf, IsPieceOf, IsSharedOf};
 
 use crate::block::Block;
 use crate::numbers::{ALREADY_OPEN, DONE, NO_MEMORY, NOT_OPEN};

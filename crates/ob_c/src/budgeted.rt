@@ -5,7 +5,7 @@ ghost use Rattle.std.specs.Fn.{FnOnceReturnsAtMut};
 ghost use Rattle.std.specs.Borrow.{sem};
 ghost use Rattle.ob_c.specs.Budgets.{settled, settled_write};
 ghost use Rattle.ob_c.specs.Held.{held};
-ghost use Rattle.ob_c.specs.Obeying.{Relays};
+ghost use Rattle.ob_c.specs.Calls.{Relays};
 ghost use Rattle.ob_covered.specs.Budgeted.{BudgetedValue};
 ghost use Rattle.ob_covered.specs.contracts.budgeted.Budgeted.{the_row as covered_row};
 

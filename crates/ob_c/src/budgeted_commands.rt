@@ -9,7 +9,7 @@ ghost use Rattle.ob_covered.specs.Budgeted.{CoversAhead};
 ghost use Rattle.ob_c.specs.Budgets.{SettlesFor, SetsMarksWithin, Rests, covered_ahead_in_c, rested_in_c};
 ghost use Rattle.ob_c.specs.Budgets.{pressed_cancelled_in_c, pressed_changed_in_c, pressed_done_in_c, pressed_flushed_in_c};
 ghost use Rattle.ob_c.specs.Budgets.{pressed_removed_in_c, pressed_taken_in_c};
-ghost use Rattle.ob_c.specs.Obeying.{GivesUpIfOpen, ObeysFrugally, Relays, Takes};
+ghost use Rattle.ob_c.specs.Calls.{GivesUpIfOpen, ObeysFrugally, Relays, Takes};
 
 use crate::budgeted::Budgeted;
 use crate::numbers::NOT_OPEN;

@@ -4,7 +4,7 @@
 ghost use Rattle.std.specs.Prelude.{◌≡◌, drop, length};
 ghost use Rattle.ob_connection.specs.Connected.{Shows, IsFrontPromise, Tells as TellsOf};
 ghost use Rattle.ob_c.specs.Budgets.{StandsWithin, covered_connection, standing_in_c};
-ghost use Rattle.ob_c.specs.Gathering.{Gathers};
+ghost use Rattle.ob_c.specs.Calls.{Gathers};
 ghost use Rattle.ob_c.specs.Looks.{Tells, IsLeft, current_in_c, front_in_c, look_in_c, promise_in_c};
 
 use crate::budgeted::Budgeted;

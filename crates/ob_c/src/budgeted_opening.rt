@@ -5,21 +5,17 @@ ghost use Rattle.ob_types.specs.Limits.{greatest_overhead, greatest_unknown};
 ghost use Rattle.ob_connection.specs.Connected.{StandsFor};
 ghost use Rattle.ob_covered.specs.Cover.{Tells as TellsTurn, HoldsAtMost};
 ghost use Rattle.ob_c.specs.Budgets.{FreesWithin, KeepsWithin, OpensWithin};
-ghost use Rattle.ob_c.specs.Opening.{settings_for, settings_of};
+ghost use Rattle.ob_c.specs.Calls.{settings_for, settings_of};
 
 use crate::budget::Budget;
 use crate::budgeted::Budgeted;
-use crate::numbers::{
-    ALREADY_OPEN, BAD_ESTIMATE, BUSY, DONE, EDGE, NO_MEMORY, NOT_OPEN, OTHER_VERSION,
-};
+use crate::numbers::{ALREADY_OPEN, BUSY, DONE, EDGE, NO_MEMORY, NOT_OPEN};
 use crate::pressed::{PressedDone, pressure_number};
+use crate::settings::{Settings, settings_for};
 use ob_budget::Pressure;
 use ob_covered::{Cover, NoSeat};
 use ob_types::{Estimate, WaterMark};
 use std::alloc::Global;
-
-/// The greatest overhead, and the greatest size of an unknown message, in bytes.
-const MAX_ESTIMATE: u32 = 65535;
 
 /// Opens a connection with nothing written, as `limekeel_open_for` opens one, that this budget covers. It holds nothing of
 /// the budget before its first write.
@@ -43,20 +39,13 @@ pub extern "C" fn limekeel_open_within_for(
     if budgeted.is_open() {
         return ALREADY_OPEN;
     }
-    if edge != EDGE {
-        return OTHER_VERSION;
-    }
-    let marks = match WaterMark::new(low, high) {
-        Ok(marks) => marks,
-        Err(refusal) => return u32::from(refusal.number()),
+    let Settings { marks, estimate } = match settings_for(edge, low, high, overhead, unknown) {
+        Ok(settings) => settings,
+        Err(status) => return status,
     };
-    if overhead > MAX_ESTIMATE || unknown > MAX_ESTIMATE {
-        return BAD_ESTIMATE;
-    }
     if !budget.is_open() {
         return NOT_OPEN;
     }
-    let estimate = Estimate { overhead, unknown };
     keep_within(alloc, marks, estimate, budget.reach().split(), budgeted)
 }
 

@@ -2,9 +2,9 @@
 
 ghost use Rattle.std.specs.Prelude.{◌≡◌, IfOk, None, nat_eq};
 ghost use Rattle.ob_budget.specs.Bounds.{bounds_of};
-ghost use Rattle.ob_c.specs.Blocks.{IsLetGo};
+ghost use Rattle.ob_c.specs.Calls.{IsLetGo};
 ghost use Rattle.ob_c.specs.Budgets.{KeepsShare, OpensBudget, SeesBudget, Shares, bounds_for, budget_told_in_c};
-ghost use Rattle.ob_c.specs.Obeying.{Relays};
+ghost use Rattle.ob_c.specs.Calls.{Relays};
 
 use crate::budget::Budget;
 use crate::budgeted::Budgeted;

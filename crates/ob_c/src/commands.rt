@@ -3,9 +3,8 @@
 ghost use Rattle.ob_types.specs.Marks.{water_mark_of};
 ghost use Rattle.ob_types.specs.declared.command.Command.TheVariants.{Flush, Progress, Cancel, UserBit};
 ghost use Rattle.ob_connection.specs.Obeying.{flushed_reply, done_reply, cancelled_reply, bit_reply};
-ghost use Rattle.ob_c.specs.Numbers.{status_in_c};
-ghost use Rattle.ob_c.specs.Obeying.{ObeysFrugallyFor};
-ghost use Rattle.ob_c.specs.Opening.{SetsMarks};
+ghost use Rattle.ob_c.specs.Replies.{status_in_c};
+ghost use Rattle.ob_c.specs.Calls.{ObeysFrugallyFor, SetsMarks};
 ghost use Rattle.ob_c.specs.Replies.{flushed_in_c, cancelled_in_c, changed_in_c};
 
 use crate::handle::Handle;

@@ -2,8 +2,8 @@
 
 ghost use Rattle.std.specs.Option.{option_copied};
 ghost use Rattle.std.specs.Prelude.{◌≡◌, ◌&&◌, ◌||◌, nat_le, nat_lt, length, drop, Some};
-ghost use Rattle.ob_c.specs.Gathering.{Gathers, front_number, gathered_as};
-ghost use Rattle.ob_c.specs.Numbers.{not_open};
+ghost use Rattle.ob_c.specs.Calls.{Gathers, front_number, gathered_as};
+ghost use Rattle.ob_c.specs.Replies.{not_open};
 
 use crate::handle::Handle;
 use crate::numbers::{DONE, NOT_OPEN};

@@ -4,8 +4,8 @@ ghost use Rattle.std.specs.Prelude.{◌≡◌, IsSome, is_some, Option, Some, No
 ghost use Rattle.std.specs.Fn.{FnOnceReturnsAtMut};
 ghost use Rattle.std.specs.Borrow.{sem};
 ghost use Rattle.ob_c.specs.Held.{held};
-ghost use Rattle.ob_c.specs.Numbers.{accepted};
-ghost use Rattle.ob_c.specs.Obeying.{Relays};
+ghost use Rattle.ob_c.specs.Replies.{accepted};
+ghost use Rattle.ob_c.specs.Calls.{Relays};
 ghost use Rattle.ob_connection.specs.contracts.connection.Connection.{the_row as connection_row};
 ghost use Rattle.ob_connection.specs.Connected.{Connected};
 
@@ -17,7 +17,7 @@ use std::alloc::Global;
 use std::marker::Model;
 use std::ptr::null_mut;
 
-/// A connection of C's, which makes it as `{0}`: none yet.
+/// A connection of C's, which makes it as `{0}`: none yet. Each export takes it by `&mut`, as it takes a `Block`.
 #[repr(C)]
 #[derive(Drop)]
 pub struct Handle {

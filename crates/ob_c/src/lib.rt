@@ -29,6 +29,7 @@ mod puts;
 mod removals;
 mod replies;
 mod sends;
+mod settings;
 mod shared;
 mod shares;
 mod told;

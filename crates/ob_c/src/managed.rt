@@ -5,7 +5,7 @@ ghost use Rattle.std.specs.Fn.{FnOnceReturnsAtMut};
 ghost use Rattle.std.specs.Borrow.{sem};
 ghost use Rattle.ob_c.specs.Held.{held};
 ghost use Rattle.ob_c.specs.Managing.{reported, reported_write};
-ghost use Rattle.ob_c.specs.Obeying.{Relays};
+ghost use Rattle.ob_c.specs.Calls.{Relays};
 ghost use Rattle.ob_lifecycle.specs.contracts.managed.ManagedConnection.{the_row as managed_row};
 ghost use Rattle.ob_lifecycle.specs.Managed.{Managed as ManagedValue};
 

@@ -10,7 +10,7 @@ ghost use Rattle.ob_c.specs.Looks.{truth_in_c};
 ghost use Rattle.ob_c.specs.Managing.{Finishes, ManagesFor, SetsMarksFor, Ticks};
 ghost use Rattle.ob_c.specs.Managing.{told_cancelled_in_c, told_changed_in_c, told_done_in_c, told_flushed_in_c};
 ghost use Rattle.ob_c.specs.Managing.{told_removed_in_c, told_taken_in_c};
-ghost use Rattle.ob_c.specs.Obeying.{GivesUpIfOpen, ObeysFrugally, Relays, Takes};
+ghost use Rattle.ob_c.specs.Calls.{GivesUpIfOpen, ObeysFrugally, Relays, Takes};
 
 use crate::managed::Managed;
 use crate::numbers::NOT_OPEN;

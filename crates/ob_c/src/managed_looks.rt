@@ -2,7 +2,7 @@
 
 ghost use Rattle.std.specs.Prelude.{◌≡◌, drop, length};
 ghost use Rattle.ob_connection.specs.Connected.{Shows, IsFrontPromise, Tells as TellsOf};
-ghost use Rattle.ob_c.specs.Gathering.{Gathers};
+ghost use Rattle.ob_c.specs.Calls.{Gathers};
 ghost use Rattle.ob_c.specs.Looks.{Tells, IsLeft, current_in_c, front_in_c, look_in_c, promise_in_c};
 ghost use Rattle.ob_c.specs.Managing.{ShowsNumbers, StandsSo, connection_of, count_in_c, none_refused, numbers_in_c, refusals_in_c, state_in_c};
 

@@ -1,18 +1,15 @@
 //! The opening of a managed connection, and its end: the struct that is freed.
 
 ghost use Rattle.std.specs.Prelude.{◌≡◌, nat_eq};
-ghost use Rattle.ob_c.specs.Blocks.{IsLetGo};
+ghost use Rattle.ob_c.specs.Calls.{IsLetGo};
 ghost use Rattle.ob_c.specs.Managing.{OpensManaged, ShrinksManaged};
-ghost use Rattle.ob_c.specs.Opening.{settings_for, settings_of};
+ghost use Rattle.ob_c.specs.Calls.{settings_for, settings_of};
 
 use crate::managed::Managed;
-use crate::numbers::{ALREADY_OPEN, BAD_ESTIMATE, DONE, EDGE, NO_MEMORY, NOT_OPEN, OTHER_VERSION};
+use crate::numbers::{ALREADY_OPEN, DONE, EDGE, NO_MEMORY, NOT_OPEN};
+use crate::settings::{Settings, settings_for};
 use ob_lifecycle::{Limits, ManagedConnection};
-use ob_types::{Estimate, WaterMark};
 use std::alloc::Global;
-
-/// The greatest overhead, and the greatest size of an unknown message, in bytes.
-const MAX_ESTIMATE: u32 = 65535;
 
 /// Opens a managed connection with nothing written, as `limekeel_open_for` opens one that is not: at most `most_pending` bytes
 /// may be pending, and its peer has to take `least_bytes` in each window of `window` units of the caller's clock, which stands
@@ -37,22 +34,16 @@ pub extern "C" fn limekeel_managed_open_for(
     if managed.is_open() {
         return ALREADY_OPEN;
     }
-    if edge != EDGE {
-        return OTHER_VERSION;
-    }
-    let marks = match WaterMark::new(low, high) {
-        Ok(marks) => marks,
-        Err(refusal) => return u32::from(refusal.number()),
+    let Settings { marks, estimate } = match settings_for(edge, low, high, overhead, unknown) {
+        Ok(settings) => settings,
+        Err(status) => return status,
     };
-    if overhead > MAX_ESTIMATE || unknown > MAX_ESTIMATE {
-        return BAD_ESTIMATE;
-    }
     let limits = Limits {
         most_pending,
         window,
         least_bytes,
     };
-    let opened = ManagedConnection::new(alloc, marks, Estimate { overhead, unknown }, limits, now);
+    let opened = ManagedConnection::new(alloc, marks, estimate, limits, now);
     match Box::new(alloc, opened) {
         Ok(opened) => {
             managed.keep(opened);

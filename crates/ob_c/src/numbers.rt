@@ -1,7 +1,7 @@
 //! The numbers that C sees.
 
 ghost use Rattle.std.specs.Prelude.{◌≡◌};
-ghost use Rattle.ob_c.specs.Numbers.{accepted, change_number, outcome_number, cause_number, status_in_c};
+ghost use Rattle.ob_c.specs.Replies.{accepted, change_number, outcome_number, cause_number, status_in_c};
 
 use ob_types::{Change, Outcome, Refusal};
 

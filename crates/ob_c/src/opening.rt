@@ -3,17 +3,13 @@
 ghost use Rattle.std.specs.Prelude.{◌≡◌, ◌≤◌, IfOk, OnErr, [], nat_eq};
 ghost use Rattle.ob_types.specs.Limits.{greatest_overhead, greatest_unknown};
 ghost use Rattle.ob_connection.specs.Connected.{StandsFor};
-ghost use Rattle.ob_c.specs.Blocks.{IsLetGo};
-ghost use Rattle.ob_c.specs.Opening.{Opens, ShrinksFor, settings_for, settings_of};
+ghost use Rattle.ob_c.specs.Calls.{IsLetGo, Opens, ShrinksFor, settings_for, settings_of};
 
 use crate::handle::Handle;
-use crate::numbers::{ALREADY_OPEN, BAD_ESTIMATE, DONE, EDGE, NO_MEMORY, NOT_OPEN, OTHER_VERSION};
+use crate::numbers::{ALREADY_OPEN, DONE, EDGE, NO_MEMORY, NOT_OPEN};
+use crate::settings::{Settings, settings_for};
 use ob_connection::Connection;
-use ob_types::{Estimate, WaterMark};
 use std::alloc::Global;
-
-/// The greatest overhead, and the greatest size of an unknown message, in bytes.
-const MAX_ESTIMATE: u32 = 65535;
 
 /// Opens a connection with nothing written, for a caller that was compiled for this edge. The marks, the overhead of a message and the size of a message that is
 /// neither a block nor a region are in bytes.
@@ -36,17 +32,11 @@ pub extern "C" fn limekeel_open_for(
     if handle.is_open() {
         return ALREADY_OPEN;
     }
-    if edge != EDGE {
-        return OTHER_VERSION;
-    }
-    let marks = match WaterMark::new(low, high) {
-        Ok(marks) => marks,
-        Err(refusal) => return u32::from(refusal.number()),
+    let Settings { marks, estimate } = match settings_for(edge, low, high, overhead, unknown) {
+        Ok(settings) => settings,
+        Err(status) => return status,
     };
-    if overhead > MAX_ESTIMATE || unknown > MAX_ESTIMATE {
-        return BAD_ESTIMATE;
-    }
-    let connection = Connection::new(alloc, marks, Estimate { overhead, unknown });
+    let connection = Connection::new(alloc, marks, estimate);
     match Box::new(alloc, connection) {
         Ok(connection) => {
             handle.keep(connection);

@@ -6,8 +6,7 @@ ghost use Rattle.ob_types.specs.declared.command.Command.TheVariants.{Write};
 ghost use Rattle.ob_types.specs.declared.message.Message.TheVariants.{Block as AsBlock};
 ghost use Rattle.ob_connection.specs.Connected.{Refuses};
 ghost use Rattle.ob_connection.specs.Obeying.{Obeys, written_reply, joined};
-ghost use Rattle.ob_c.specs.Obeying.{ObeysFor};
-ghost use Rattle.ob_c.specs.Parts.{slices_of};
+ghost use Rattle.ob_c.specs.Calls.{ObeysFor, slices_of};
 ghost use Rattle.ob_c.specs.Replies.{written_in_c};
 
 use crate::handle::Handle;

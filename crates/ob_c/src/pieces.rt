@@ -1,7 +1,7 @@
 //! Where the bytes of a block lie, for a vectored write.
 
 ghost use Rattle.std.specs.Prelude.{◌≡◌};
-ghost use Rattle.ob_c.specs.Gathering.{piece_of};
+ghost use Rattle.ob_c.specs.Calls.{piece_of};
 
 /// A piece of memory that is to be sent: `struct iovec` of POSIX.
 #[repr(C)]

@@ -1,7 +1,7 @@
 //! What a write of a shared connection returns to C.
 
 ghost use Rattle.std.specs.Prelude.{◌≡◌};
-ghost use Rattle.ob_c.specs.Puts.{put_and_flushed_in_c, put_in_c, put_number, put_told};
+ghost use Rattle.ob_c.specs.Replies.{put_and_flushed_in_c, put_in_c, put_number, put_told};
 ghost use Rattle.ob_c.specs.Within.{gave_in_c, let_go, within_and_flushed_in_c, within_in_c, within_reply, within_told};
 
 use crate::numbers::{BUSY, DONE, OVER_BUDGET};

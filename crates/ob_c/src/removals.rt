@@ -3,7 +3,7 @@
 ghost use Rattle.ob_types.specs.declared.command.Command.TheVariants.{Remove, RemoveWith, RemoveBytes, FailFlushed, Close};
 ghost use Rattle.ob_types.specs.declared.promise.Outcome.TheVariants.{Success, Failed};
 ghost use Rattle.ob_connection.specs.Obeying.{removed_reply};
-ghost use Rattle.ob_c.specs.Obeying.{Answers, GivesUpIfOpen, ObeysFrugallyFor, TakesFor};
+ghost use Rattle.ob_c.specs.Calls.{Answers, GivesUpIfOpen, ObeysFrugallyFor, TakesFor};
 ghost use Rattle.ob_c.specs.Replies.{removed_in_c, taken_in_c};
 
 use crate::handle::Handle;

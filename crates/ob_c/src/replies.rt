@@ -2,8 +2,7 @@
 
 ghost use Rattle.std.specs.Prelude.{◌≡◌};
 ghost use Rattle.ob_c.specs.Replies.{written_in_c, flushed_in_c, removed_in_c, taken_in_c, cancelled_in_c, changed_in_c};
-ghost use Rattle.ob_c.specs.Replies.{removed_with, written_and_flushed_in_c};
-ghost use Rattle.ob_c.specs.Numbers.{change_number};
+ghost use Rattle.ob_c.specs.Replies.{removed_with, written_and_flushed_in_c, change_number};
 
 use crate::numbers::{DONE, cause_number, change_number, outcome_number};
 use ob_types::Change;

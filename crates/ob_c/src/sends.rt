@@ -7,10 +7,9 @@ ghost use Rattle.ob_types.specs.declared.promise.Outcome.TheVariants.{Failed, Su
 ghost use Rattle.ob_connection.specs.Calls.{most_pieces};
 ghost use Rattle.ob_connection.specs.Obeying.{done_reply, removed_reply};
 ghost use Rattle.ob_shared_connection.specs.Calls.{AlwaysCovered, GivingUp, IsCall, Makes, ObeyingFreely, Taking, TakingQuietly, giving_up};
-ghost use Rattle.ob_c.specs.Gathering.{AreAt};
+ghost use Rattle.ob_c.specs.Calls.{AreAt};
 ghost use Rattle.ob_c.specs.Looks.{ShowsLeft, current_or_status};
-ghost use Rattle.ob_c.specs.Numbers.{status_in_c};
-ghost use Rattle.ob_c.specs.Replies.{removed_in_c, taken_in_c};
+ghost use Rattle.ob_c.specs.Replies.{status_in_c, removed_in_c, taken_in_c};
 ghost use Rattle.ob_c.specs.Sharing.{IsTakenIfInFront, Tries, TriesToGather, TriesToLook};
 
 use crate::numbers::{BUSY, DONE, NOT_OPEN, accepted, status_of};

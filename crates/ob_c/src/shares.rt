@@ -1,19 +1,15 @@
 //! The handles of a shared connection: the first, which sends; others; and their end.
 
 ghost use Rattle.std.specs.Prelude.{◌≡◌, None, nat_eq};
-ghost use Rattle.ob_c.specs.Blocks.{IsLetGo};
-ghost use Rattle.ob_c.specs.Opening.{settings_for, settings_of};
+ghost use Rattle.ob_c.specs.Calls.{IsLetGo, settings_for, settings_of};
 ghost use Rattle.ob_c.specs.Sharing.{KeepsAnother, MakesAnother, OpensShared};
 
-use crate::numbers::{ALREADY_OPEN, BAD_ESTIMATE, DONE, EDGE, NO_MEMORY, NOT_OPEN, OTHER_VERSION};
+use crate::numbers::{ALREADY_OPEN, DONE, EDGE, NO_MEMORY, NOT_OPEN};
+use crate::settings::{Settings, settings_for};
 use crate::shared::Shared;
 use crate::transport::Transport;
 use ob_shared_connection::{Ended, Handle, TooManyHandles};
-use ob_types::{Estimate, WaterMark};
 use std::alloc::Global;
-
-/// The greatest overhead, and the greatest size of an unknown message, in bytes.
-const MAX_ESTIMATE: u32 = 65535;
 
 /// Opens a connection for several threads with nothing written, as `limekeel_open_for` opens one for one thread, and gives
 /// its first handle, which sends. The statuses are those of `limekeel_open_for`.
@@ -33,17 +29,11 @@ pub extern "C" fn limekeel_shared_open_for(
     if transport.is_open() {
         return ALREADY_OPEN;
     }
-    if edge != EDGE {
-        return OTHER_VERSION;
-    }
-    let marks = match WaterMark::new(low, high) {
-        Ok(marks) => marks,
-        Err(refusal) => return u32::from(refusal.number()),
+    let Settings { marks, estimate } = match settings_for(edge, low, high, overhead, unknown) {
+        Ok(settings) => settings,
+        Err(status) => return status,
     };
-    if overhead > MAX_ESTIMATE || unknown > MAX_ESTIMATE {
-        return BAD_ESTIMATE;
-    }
-    let Ok(first) = Handle::open(alloc, marks, Estimate { overhead, unknown }) else {
+    let Ok(first) = Handle::open(alloc, marks, estimate) else {
         return NO_MEMORY;
     };
     match Box::new(alloc, first.into_transport()) {

@@ -1,7 +1,7 @@
 //! What the commands of a managed connection return to C: a reply, and whether the end was reached by the call.
 
 ghost use Rattle.std.specs.Prelude.{◌≡◌};
-ghost use Rattle.ob_c.specs.Managing.{fault_number, reported, reported_write};
+ghost use Rattle.ob_c.specs.Managing.{managed_fault_number, reported, reported_write};
 ghost use Rattle.ob_c.specs.Managing.{told_cancelled_in_c, told_changed_in_c, told_done_in_c, told_flushed_in_c};
 ghost use Rattle.ob_c.specs.Managing.{told_removed_in_c, told_taken_in_c};
 
@@ -27,14 +27,14 @@ pub(crate) fn reported_write(answer: Option<Result<Written, WriteFault>>) -> Res
 {
     match answer {
         None => Err(NOT_OPEN),
-        Some(Err(why)) => Err(fault_number(why)),
+        Some(Err(why)) => Err(managed_fault_number(why)),
         Some(Ok(written)) => Ok(written),
     }
 }
 
 /// The status of a write that was refused.
-fn fault_number(why: WriteFault) -> u32
-    ensures { result ≡ fault_number why }
+fn managed_fault_number(why: WriteFault) -> u32
+    ensures { result ≡ managed_fault_number why }
 {
     match why {
         WriteFault::Refused(refusal) => u32::from(refusal.number()),

@@ -4,15 +4,16 @@ ghost use Rattle.std.specs.Prelude.{◌≡◌, ◌≤◌, IfErr, IfOk, None, nat
 ghost use Rattle.ob_types.specs.Limits.{greatest_overhead, greatest_unknown};
 ghost use Rattle.ob_types.specs.declared.message.Message.TheVariants.{Block as AsBlock, Region as AsRegion, Other as AsOther};
 ghost use Rattle.ob_shared_connection.specs.Covering.{Settles, ShowsHeld};
-ghost use Rattle.ob_c.specs.Opening.{settings_for, settings_of};
+ghost use Rattle.ob_c.specs.Calls.{settings_for, settings_of};
 ghost use Rattle.ob_c.specs.Sharing.{TriesTo, TriesToWithBlock, TriesToWithMemory};
 ghost use Rattle.ob_c.specs.Within.{KeepsSharedWithin, OpensSharedWithin, PutsAndFlushesWithin, PutsWithin};
 ghost use Rattle.ob_c.specs.Within.{gave_in_c, seat_told_in_c, within_and_flushed_in_c, within_in_c};
 
 use crate::block::Block;
 use crate::budget::Budget;
-use crate::numbers::{ALREADY_OPEN, BAD_ESTIMATE, DONE, EDGE, NO_MEMORY, NOT_OPEN, OTHER_VERSION};
+use crate::numbers::{ALREADY_OPEN, DONE, EDGE, NO_MEMORY, NOT_OPEN};
 use crate::pressed::{PressedDone, PressedWritten, PressedWrittenAndFlushed};
+use crate::settings::{Settings, settings_for};
 use crate::shared::Shared;
 use crate::transport::Transport;
 use crate::tries::{FEW_BYTES, bytes_of, copied};
@@ -22,9 +23,6 @@ use ob_shared_connection::Handle;
 use ob_shared_connection::writes::{Put, PutAndFlush, WriteCopy, WriteCopyAndFlush};
 use ob_types::{Estimate, Message, WaterMark};
 use std::alloc::Global;
-
-/// The greatest overhead, and the greatest size of an unknown message, in bytes.
-const MAX_ESTIMATE: u32 = 65535;
 
 /// Opens a connection for several threads within this budget, as `limekeel_shared_open_for` opens one, and gives its first
 /// handle, which sends. It holds nothing of the budget before its first write.
@@ -48,20 +46,13 @@ pub extern "C" fn limekeel_shared_open_within_for(
     if transport.is_open() {
         return ALREADY_OPEN;
     }
-    if edge != EDGE {
-        return OTHER_VERSION;
-    }
-    let marks = match WaterMark::new(low, high) {
-        Ok(marks) => marks,
-        Err(refusal) => return u32::from(refusal.number()),
+    let Settings { marks, estimate } = match settings_for(edge, low, high, overhead, unknown) {
+        Ok(settings) => settings,
+        Err(status) => return status,
     };
-    if overhead > MAX_ESTIMATE || unknown > MAX_ESTIMATE {
-        return BAD_ESTIMATE;
-    }
     if !budget.is_open() {
         return NOT_OPEN;
     }
-    let estimate = Estimate { overhead, unknown };
     keep_within(alloc, marks, estimate, budget.reach().split(), transport)
 }
 

@@ -4,8 +4,7 @@ ghost use Rattle.std.specs.Prelude.{◌≡◌};
 ghost use Rattle.ob_types.specs.declared.command.Command.TheVariants.{Write};
 ghost use Rattle.ob_types.specs.declared.message.Message.TheVariants.{Block as AsBlock, Region as AsRegion, Other as AsOther};
 ghost use Rattle.ob_connection.specs.Obeying.{Obeys, written_reply};
-ghost use Rattle.ob_c.specs.Blocks.{WritesBlock};
-ghost use Rattle.ob_c.specs.Obeying.{ObeysFor};
+ghost use Rattle.ob_c.specs.Calls.{WritesBlock, ObeysFor};
 ghost use Rattle.ob_c.specs.Replies.{written_in_c};
 
 use crate::block::Block;

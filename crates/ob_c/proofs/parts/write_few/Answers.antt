@@ -3,7 +3,7 @@ use Rattle.std.proofs.lemmas.List.{length-set, take_all}
 use Rattle.ob_types.specs.declared.command.Command.TheVariants.{Write}
 use Rattle.ob_types.specs.declared.message.Message.TheVariants.{Block as AsBlock}
 use Rattle.ob_connection.specs.Obeying.{Obeys, joined, written_reply}
-use Rattle.ob_c.specs.Parts.{slices_of}
+use Rattle.ob_c.specs.Calls.{slices_of}
 use Rattle.ob_c.proofs.Listing.{list_more}
 use Rattle.ob_c.proofs.parts.write_few.Goals as goal
 

@@ -1,5 +1,5 @@
 use Rattle.std.proofs.Common.{◌≡◌, length, take}
-use Rattle.ob_c.specs.Parts.{slices_of}
+use Rattle.ob_c.specs.Calls.{slices_of}
 use Rattle.ob_c.proofs.parts.write_few.Given as goal
 
 abbrev pub invariant-loop-at : goal.invariant-loop-at

@@ -1,7 +1,7 @@
 use Rattle.std.proofs.Common.{◌+◌, ◌++◌, ◌∷◌, [], ℕ, List, take, sym, ap, ◌∙◌, subst, slice_set, arith}
 use Rattle.std.proofs.lemmas.Grind.{drop_more_same}
 use Rattle.std.proofs.lemmas.List.{drop-set-lt, length-set, take_more}
-use Rattle.ob_c.specs.Gathering.{AreAt}
+use Rattle.ob_c.specs.Calls.{AreAt}
 use Rattle.ob_c.proofs.Gathered.{laid_more}
 use Rattle.ob_c.proofs.sends.lay.Goals as goal
 

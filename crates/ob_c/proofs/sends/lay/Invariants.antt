@@ -1,5 +1,5 @@
 use Rattle.std.proofs.Common.{◌≡◌, length, take, drop}
-use Rattle.ob_c.specs.Gathering.{AreAt}
+use Rattle.ob_c.specs.Calls.{AreAt}
 use Rattle.ob_c.proofs.sends.lay.Given as goal
 
 -- the first blocks are laid, and no other piece is changed

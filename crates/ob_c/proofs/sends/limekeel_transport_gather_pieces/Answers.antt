@@ -1,5 +1,5 @@
 use Rattle.std.proofs.Common.{ap, sym, ◌∙◌, subst, ℕ, List, length, take, arith}
-use Rattle.ob_c.specs.Gathering.{AreAt}
+use Rattle.ob_c.specs.Calls.{AreAt}
 use Rattle.ob_c.specs.declared.transport.Transport.{Transport}
 use Rattle.ob_c.proofs.Few.{few_gathered, told_blocks, told_refusal}
 use Rattle.ob_c.proofs.sends.limekeel_transport_gather_pieces.Goals as goal

@@ -1,4 +1,4 @@
-use Rattle.ob_c.specs.Numbers.{status_in_c}
+use Rattle.ob_c.specs.Replies.{status_in_c}
 use Rattle.ob_c.proofs.Trying.{told_in}
 use Rattle.ob_c.proofs.sends.limekeel_transport_progress.Goals as goal
 

@@ -1,6 +1,6 @@
 use Rattle.std.proofs.Common.{subst}
 use Rattle.ob_shared_connection.specs.Calls.{PutsAndFlushes}
-use Rattle.ob_c.specs.Puts.{put_and_flushed_in_c}
+use Rattle.ob_c.specs.Replies.{put_and_flushed_in_c}
 use Rattle.ob_c.specs.Sharing.{TriesToWithBlock}
 use Rattle.ob_c.specs.declared.shared.Shared.{Shared}
 use Rattle.ob_c.proofs.Trying.{with_block}

@@ -1,6 +1,6 @@
 use Rattle.std.proofs.Common.{subst}
 use Rattle.ob_shared_connection.specs.Calls.{Puts}
-use Rattle.ob_c.specs.Puts.{put_in_c}
+use Rattle.ob_c.specs.Replies.{put_in_c}
 use Rattle.ob_c.specs.Sharing.{TriesToWithBlock}
 use Rattle.ob_c.specs.declared.shared.Shared.{Shared}
 use Rattle.ob_c.proofs.Trying.{with_block}

@@ -1,7 +1,7 @@
 use Rattle.std.proofs.Common.{subst}
 use Rattle.ob_types.specs.declared.message.Message.TheVariants.{Block as AsBlock}
 use Rattle.ob_shared_connection.specs.Calls.{Puts}
-use Rattle.ob_c.specs.Puts.{put_in_c}
+use Rattle.ob_c.specs.Replies.{put_in_c}
 use Rattle.ob_c.specs.Sharing.{TriesToWithMemory}
 use Rattle.ob_c.specs.declared.shared.Shared.{Shared}
 use Rattle.ob_c.proofs.Trying.{made_in, made_with, with_memory}

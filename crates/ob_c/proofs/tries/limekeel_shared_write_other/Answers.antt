@@ -1,4 +1,4 @@
-use Rattle.ob_c.specs.Puts.{put_in_c}
+use Rattle.ob_c.specs.Replies.{put_in_c}
 use Rattle.ob_c.proofs.Trying.{made_in}
 use Rattle.ob_c.proofs.tries.limekeel_shared_write_other.Goals as goal
 
