@@ -1,4 +1,5 @@
-//! Callers of a buffer: those that the README and the pages show, and those that `docs/PROVED.md` names.
+//! Callers of a buffer: those that `docs/calls.md` points to, which `slow_peer` of `ob_tests` plays, and those that
+//! `docs/PROVED.md` names.
 
 ghost use Rattle.std.specs.Prelude.{◌≡◌, ◌↔◌, List, IsTrue};
 ghost use Rattle.ob_types.specs.declared.command.Command.{Command};

@@ -1,4 +1,4 @@
-//! Bytes in flight on two connections, each with words of its own, as `docs/calls.md` shows them.
+//! Bytes in flight on two connections, each with words of its own, to which `docs/calls.md` points.
 
 use ob_lanes::lanes;
 use ob_types::{Refusal, WaterMark};

@@ -1,4 +1,4 @@
-//! The callers that `docs/calls.md` shows, which tests play too.
+//! The callers that `docs/calls.md` points to, which tests play.
 #![tactic(auto)]
 
 pub mod caller;

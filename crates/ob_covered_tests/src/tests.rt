@@ -205,6 +205,7 @@ fn give_each(
     let bit = connection.user_bit(1, false).answer.is_ok();
     let set = connection.set_marks(marks).answer == Ok(());
     let removed = connection.remove().answer.is_ok();
+    // the voided one: it frees nothing, and no promise ends
     let removed_with = connection.remove_with(Cause(3)).answer.is_ok();
     let less = total(budget);
     let failed = connection.fail_flushed(Cause(4), true).answer.is_ok();

@@ -41,6 +41,7 @@ pub struct Options {
 }
 
 impl Options {
+    /// The options that these words give; any other is what `ob_tool` takes without it, by the table of `docs/formats.md`.
     pub fn of(command: &str) -> Result<Options, NoAnswer> {
         let mut options = Options {
             low: 32768,

@@ -149,7 +149,7 @@ impl Contents {
         self.closed
     }
 
-    /// Where its memory comes from.
+    /// Where the settlements of a reply get their memory. No clause sees an allocator.
     pub(crate) fn allocator(&self) -> Global {
         *self.entries.allocator()
     }

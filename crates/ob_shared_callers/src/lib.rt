@@ -1,4 +1,5 @@
-//! Four writers and a transport over one shared buffer, each in a thread of its own, as `docs/calls.md` shows them.
+//! Four writers and a transport over one shared buffer, each in a thread of its own, to which
+//! `docs/calls.md` points.
 #![tactic(auto)]
 
 ghost use Rattle.std.specs.Prelude.{◌≡◌};
@@ -22,7 +23,7 @@ const WRITERS: u32 = 4;
 
 const WRITES: u32 = 10;
 
-/// Opens a buffer for the writers and the transport, runs them, and gives its whole history.
+/// Opens a buffer with Netty's marks and sizes for the writers and the transport, runs them, and gives its whole history.
 pub fn serve<R: Threads + Wait + Clock + Sync, S: Sink + Send>(
     rt: &R,
     alloc: Global,

@@ -57,8 +57,7 @@ impl Guard {
         requires { self.handle.sends ≡ true }
         ensures { result ≡ self.handle }
     {
-        let Guard { caller } = self;
-        let mut sender = caller;
+        let Guard { caller: mut sender } = self;
         sender.unlock();
         Transport::new(sender)
     }
@@ -78,8 +77,7 @@ impl Guard {
         requires { self.handle.sends ≡ true }
         ensures { result.0 ≡ self.handle }
     {
-        let Guard { caller } = self;
-        let mut sender = caller;
+        let Guard { caller: mut sender } = self;
         let wakes = sender.leave();
         (Transport::new(sender), wakes)
     }

@@ -73,8 +73,7 @@ impl Transport {
     pub fn retire(self) -> Handle
         ensures { result ≡ resigned self }
     {
-        let Transport { caller } = self;
-        let mut sender = caller;
+        let Transport { caller: mut sender } = self;
         sender.resign();
         Handle::new(sender)
     }
@@ -105,8 +104,7 @@ impl Transport {
         ensures sends { IfOk result (λ guard. guard.handle.sends ≡ true) }
         ensures back { IfErr result (λ transport. transport ≡ self) }
     {
-        let Transport { caller } = self;
-        let mut sender = caller;
+        let Transport { caller: mut sender } = self;
         if sender.try_lock() {
             Ok(Guard::new(sender))
         } else {

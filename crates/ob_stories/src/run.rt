@@ -301,4 +301,19 @@ o 7 / id 1 t=196606 w=00000000
 $ run --limit 1
 b 1 / id 0 t=97 w=00000000
 f / !11 t=97 w=00000000
+
+# the marks if none are given: 65537 sets the mark, and 32768 does not clear it
+$ run
+b 32673 / id 0 t=32769 w=00000000
+b 32672 / id 1 t=65537 w=00000001 -
+f / n 2 t=65537 w=00000001
+rm / yes t=32768 w=00000001 0:ok
+
+# the marks if none are given: 65536 does not set the mark, and 32767 clears it
+$ run
+b 32769 / id 0 t=32865 w=00000000
+b 32575 / id 1 t=65536 w=00000000
+b 0 / id 2 t=65632 w=00000001 -
+f / n 3 t=65632 w=00000001
+rm / yes t=32767 w=00000000 + 0:ok
 ";

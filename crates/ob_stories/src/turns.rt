@@ -70,7 +70,7 @@ $ core --low 50 --high 100
 lane 7 6 / lane 0
 / end quiet owed=0
 
-# the marks where none are given: 65536 raises nothing, and 65537 does
+# the high mark if none is given: 65536 raises nothing, and 65537 does
 $ core
 lane 99999 0 / lane 0
 c 0 65536 / add t=65536 w=00000000

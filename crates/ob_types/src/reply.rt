@@ -27,7 +27,7 @@ impl Reply {
         ensures same { IfOk result (λ copy. copy ≡ self.now) }
         ensures succeeds { length self.now.settled ≤ inline_settlements → IsOk result }
     {
-        Ok(self.with(self.settled.copy()?))
+        Ok(self.with_settled(self.settled.copy()?))
     }
 
     /// The same reply, in memory that was allocated before. It allocates no more.
@@ -35,7 +35,7 @@ impl Reply {
         requires { length self.now.settled ≤ spare }
         ensures { result ≡ self.now }
     {
-        self.with(spare.copy_of(&self.settled))
+        self.with_settled(spare.copy_of(&self.settled))
     }
 
     /// Whether the other reply has the same answer, settlements and change. It does not allocate.
@@ -48,7 +48,7 @@ impl Reply {
     }
 
     /// The reply with other settlements.
-    fn with(&self, settled: Settlements) -> Reply
+    fn with_settled(&self, settled: Settlements) -> Reply
         ensures { result ≡ record self.now { settled = settled } }
     {
         Reply {

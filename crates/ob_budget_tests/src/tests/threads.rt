@@ -164,6 +164,7 @@ fn comes_and_goes<R: Abort + Clock>(
     'rounds: for _ in 0..ROUNDS {
         amount = (amount % 699) * 37 % 699 + 1;
         let raised = party.raises(budget, amount);
+        // three others do not come in between 65,536 times
         assert!(rt; raised != Err(RaiseFault::Busy));
         let total = budget.glance().look().total;
         assert!(rt; total <= 1000 && (raised.is_err() || total >= amount));

@@ -15,7 +15,7 @@ use ob_seq::Cut;
 use ob_types::{Change, Outcome, Refusal};
 
 impl Connection {
-    /// Nothing, unless each command is refused as `Closed`.
+    /// Refuses with `Closed` exactly if it is closed.
     #[inline(always)]
     pub(super) fn ask_open(&self) -> Result<(), Refusal>
         ensures open { OnOk result (self.now.unsent.closed ≡ false) }

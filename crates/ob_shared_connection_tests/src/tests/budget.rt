@@ -89,7 +89,7 @@ fn what_is_taken_away_another_connection_may_write(rt: HostRuntime) -> Result<()
 }
 
 #[test]
-fn a_write_that_is_not_told_takes_no_more_than_the_seat_holds(rt: HostRuntime) -> Result<(), Fail> {
+fn a_plain_write_takes_no_more_than_the_seat_holds(rt: HostRuntime) -> Result<(), Fail> {
     let mut cover = budget(rt.alloc(), 0)?;
     let mut handle = within(rt.alloc(), &mut cover)?;
     let Err(refused) = handle.write(&rt, four()) else {
@@ -104,7 +104,7 @@ fn a_write_that_is_not_told_takes_no_more_than_the_seat_holds(rt: HostRuntime) -
 }
 
 #[test]
-fn a_write_that_is_not_told_may_use_all_that_the_seat_holds(rt: HostRuntime) -> Result<(), Fail> {
+fn a_plain_write_may_use_all_that_the_seat_holds(rt: HostRuntime) -> Result<(), Fail> {
     let mut cover = budget(rt.alloc(), 300)?;
     let mut handle = within(rt.alloc(), &mut cover)?;
     assert!(rt; write(&rt, &mut handle) == Ok(None) && cover.look().total == 300);
