@@ -1,22 +1,12 @@
 -- What C is told of a call for which the lock was tried.
-use Rattle.std.proofs.Common.{◌≡◌, ℕ, ◌∙◌, ap, refl, sym, subst, Option, Some, None, Result, Ok, List, ◌||◌, true, false, Bool}
-use Rattle.std.specs.List.{list_all}
-use Rattle.ob_types.specs.declared.command.Command.{Command}
+use Rattle.std.proofs.Common.{◌≡◌, ℕ, ◌∙◌, ap, refl, sym, subst, Option, Some, None, Result, Ok, List}
 use Rattle.ob_types.specs.declared.message.Message.{Message}
 use Rattle.ob_types.specs.declared.refusal.Refusal.{Refusal}
 use Rattle.ob_connection.specs.Connected.{Connected}
 use Rattle.ob_shared_connection.specs.Calls.{UnderLock, IsLook}
-use Rattle.ob_shared_connection.specs.Values.{MayGive, leaves_flushed, HandleValue, Held}
+use Rattle.ob_shared_connection.specs.Values.{HandleValue, Held}
 use Rattle.ob_c.specs.Replies.{accepted}
 use Rattle.ob_c.specs.Sharing.{IsLookTried, IsMade, IsTried, MessageOf, Tries, TriesTo, TriesToLook, TriesToWithBlock, TriesToWithMemory}
-
--- whoever sends may give what any handle may
-pub may_give_any : (commands : List Command) (sends : Bool) → MayGive false commands → MayGive sends commands
-may_give_any commands sends may = by_test (list_all leaves_flushed commands) sends may
-  where
-    by_test : (leaves sends : Bool) → (leaves || false) ≡ true → (leaves || sends) ≡ true
-    by_test true sends may = refl
-    by_test false sends may = absurd (cc)
 
 -- what was done under the lock is told
 pub obeyed : {A : Type 0} (value : Option HandleValue) (does : Result A Refusal → Held → Held → Type 0) (told : Result A ℕ)

@@ -1,9 +1,9 @@
 -- How a sending of several turns ends, turn by turn.
-use Rattle.ob_connection.proofs.Words.{◌≡◌, ◌≤◌, ◌<◌, ◌+◌, ℕ, zero, suc, List, [], ◌∷◌, ◌++◌, map, refl, sym, ap, ◌∙◌, subst}
-use Rattle.ob_connection.proofs.Words.{append_assoc, arith, Option, Some, None, Result, Ok, length-append}
+use Rattle.ob_connection.proofs.Words.{◌≡◌, ◌≤◌, ◌+◌, ℕ, List, [], ◌∷◌, ◌++◌, map, refl, sym, ap, ◌∙◌, subst}
+use Rattle.ob_connection.proofs.Words.{append_assoc, arith, Option, Some, None, Result, length-append}
 use Rattle.std.specs.List.{sum_by}
 use Rattle.std.proofs.lemmas.List.{map-append}
-use Rattle.std.proofs.lemmas.List.Elements.{All-append, All-cons, All-nil}
+use Rattle.std.proofs.lemmas.List.Elements.{All-append, All-nil}
 use Rattle.std.proofs.lemmas.List.Sums.{sum_by-append, sum_by-cons}
 use Rattle.ob_connection.specs.Calls.{Call, answers_in, bytes_of, calls_with, with_more}
 use Rattle.ob_connection.specs.Sending.{AllTook, AsksInTurns, ended_by, EndsWithin, OffersInTurns, Stopped}
@@ -23,10 +23,6 @@ TookBytes answer = ended_by answer ≡ None
 
 pub none_took : AllTook []
 none_took = All-nil TookBytes
-
-pub one_took : (count : ℕ) → 0 < count → AllTook (Ok count ∷ [])
-one_took zero some = absurd (omega (arith, some))
-one_took (suc more) some = All-cons TookBytes (Ok (suc more)) [] refl none_took
 
 pub stopped_at_once : (last : Answered) (ending : Ending) → ended_by last ≡ Some ending → Stopped (last ∷ []) ending
 stopped_at_once last ending ends = record { earlier = []; last = last; all = refl; took = none_took; ends = ends }

@@ -1,5 +1,5 @@
 -- A call that makes the step of its command obeys it.
-use Rattle.ob_connection.proofs.Words.{◌≡◌, sym, ap, ◌∙◌, subst, arith, List, [], ◌∷◌, ◌++◌, true, false, None}
+use Rattle.ob_connection.proofs.Words.{◌≡◌, sym, ap, ◌∙◌, subst, arith, List, [], ◌∷◌, ◌++◌, false, None}
 use Rattle.ob_connection.proofs.Words.{Option, Result, Ok, Err, IsErrOf, Refusal, NoMemory, Reply, Command, PromiseState}
 use Rattle.ob_connection.proofs.Words.{Pending, Step, answer_by, Past, held, Moves, Connected, told_by, step_within}
 use Rattle.ob_connection.proofs.Words.{connection_limit, StandsForWithin, StandsFor, StandsForSome, Answers, Follows, Obeys}
@@ -8,7 +8,7 @@ use Rattle.ob_connection.proofs.Words.{ℕ, Unsent, Becomes, accepted_writes, mo
 use Rattle.std.proofs.lemmas.List.{length-map}
 use Rattle.ob_seq.specs.Effect.{rows_after}
 use Rattle.ob_seq.proofs.Rows.Limits.{rows_within}
-use Rattle.ob_connection.specs.Connected.{room_in, roomed, Refuses}
+use Rattle.ob_connection.specs.Connected.{Refuses}
 use Rattle.ob_connection.proofs.Kept.{ids_are, some_past}
 use Rattle.ob_seq.specs.Steps.Within.{StepsWithin}
 use Rattle.ob_connection.specs.Inside.{IsFirstRefusal}
@@ -63,17 +63,6 @@ stands_after command unclosed none becomes some =
     let past = past_of some.1 in
     let there = becomes past in
     (some.0 ++ command ∷ [], stands_with command some.0 some.1 there.0 unclosed (none past, there.1))
-
--- as does the same with another room
-pub stands_roomed : {old new : Connected} → new ≡ roomed (room_in new) old → StandsForSome old → StandsForSome new
-stands_roomed same some = subst StandsForSome (sym same) (
-  some.0,
-  record {
-    past = some.1.past;
-    forgotten = some.1.forgotten;
-    as_buffer = record { accepted = some.1.as_buffer.accepted; leaves = some.1.as_buffer.leaves };
-  },
-)
 
 -- and its ids are within the limit
 pub ids_within : {connection : Connected} → StandsForSome connection → accepted_writes connection ≤ most_ids

@@ -141,11 +141,6 @@ MakeUp-and w mask taken small fits = λ i.
     (λ above. omega (arith, outside, within, bit_at_above mask (bits w) i small above))
     (cases_lt i (bits w))
 
--- two masks that have no bit in common share out both together
-pub MakeUp-or : (first second : ℕ) → ((i : ℕ) → bit_at first i + bit_at second i ≤ 1)
-    → MakeUp (bit_or first second) first second
-MakeUp-or first second apart = λ i. omega (arith, bit_at_or first second i, apart i)
-
 -- what is among a mask is so within another mask too
 pub AreAmong-and : (bits mask other : ℕ) → AreAmong bits mask → AreAmong (bit_and bits other) (bit_and mask other)
 AreAmong-and bits mask other among = λ i. omega (arith, bit_at_and bits other i, bit_at_and mask other i, among i)

@@ -1,11 +1,10 @@
 -- What holds of each world holds at its beginning, and after each step and each ask that is none.
 use Rattle.std.proofs.Common.{◌≡◌, ℕ, ◌≤◌, List, set, Some, None, slice_get, unwrap_or, ap, arith, length-set}
-use Rattle.std.proofs.lemmas.Bool.Decides.{nat_tests}
 use Rattle.std.proofs.lemmas.List.{length-map}
 use Rattle.ob_types.specs.Marks.{Marks}
 use Rattle.ob_core.specs.Accounts.{AccountsHold, owed_by, sum_owed}
 use Rattle.ob_core.specs.Inside.{IsSound}
-use Rattle.ob_core.specs.Step.{refusal_of, core_after_step, CanMake, FitsTotal, FitsWord}
+use Rattle.ob_core.specs.Step.{refusal_of, core_after_step, CanMake, FitsTotal}
 use Rattle.ob_core.specs.Turn.{step_of, lane_after_nothing}
 use Rattle.ob_core.specs.World.{CoreState, greatest_room, start_fault, grant_of, new_lane, new_core}
 use Rattle.ob_core.specs.declared.ask.Ask.{Ask}
@@ -78,14 +77,6 @@ FitsTotal-step core index lane (Subtract amount) is_lane may sound =
 FitsTotal-step core index lane (SetBit bit) is_lane may sound = tt
 FitsTotal-step core index lane (ClearBit bit) is_lane may sound = tt
 FitsTotal-step core index lane Load is_lane may sound = tt
-
--- and the word has the bit that it names
-pub FitsWord-step : (lane : Lane) (step : LaneStep) → CanMake lane step → FitsWord step
-FitsWord-step lane (Add amount) may = tt
-FitsWord-step lane (Subtract amount) may = tt
-FitsWord-step lane (SetBit bit) may = grind (arith, nat_tests, may)
-FitsWord-step lane (ClearBit bit) may = grind (arith, nat_tests, may)
-FitsWord-step lane Load may = tt
 
 -- ---- in a turn
 

@@ -1,9 +1,7 @@
 -- Tries of a step, one after another.
 use Rattle.std.proofs.Common.{◌≡◌, ◌≢◌, ℕ, List, [], ◌++◌, refl, sym, ap, ◌∙◌, append_assoc, subst, arith}
-use Rattle.std.proofs.lemmas.List.{append-nil}
 use Rattle.std.proofs.lemmas.List.Elements.{All-nil, All-cons, All-append}
 use Rattle.atomic_table.specs.declared.shared.Seat.{Seat}
-use Rattle.ob_types.specs.Marks.{total_half}
 use Rattle.ob_core.specs.Accounts.{owed_by}
 use Rattle.ob_core.specs.Step.{lane_after}
 use Rattle.ob_core.specs.World.{Grant}
@@ -38,31 +36,6 @@ pub read_expects : (found : ℕ) (old new : Knows) → Told Load old found new �
 read_expects found old new told =
     subst (λ (f : Facts). MayExpect f found) (sym told.after)
     (record { no_less = told.tells.no_less; no_more = told.tells.no_more })
-
--- and what a bit that it set or cleared left, which moves no total
-pub bit_expects : (step : LaneStep) (found left : ℕ) (old new : Knows) → Told step old found new
-    → (lane_after step old.0.lane).room ≡ old.0.lane.room → owed_by (lane_after step old.0.lane) ≡ owed_by old.0.lane
-    → total_half left ≡ total_half found → MayExpect new.0 left
-bit_expects step found left old new told room debt same =
-    subst (λ (f : Facts). MayExpect f left) (sym told.after) (record {
-      no_less = omega (arith, told.tells.no_less, debt, same);
-      no_more = omega (arith, told.tells.no_more, debt, same, room);
-    })
-
--- a lane that has not tried yet
-pub not_yet : (old : Seat (Unit {0}) Facts) (expected : ℕ) → MayExpect old.me.0 expected → SeatTries old expected old
-not_yet old expected may = record {
-  same = (refl, refl);
-  trying = record {
-    reads = [];
-    are_reads = All-nil IsRead;
-    made = sym (append-nil old.me.0.made);
-    lane = refl;
-    rest = record { grant = refl; name = refl; splits = refl; taken = refl; spent = refl; slots = refl };
-    hears = λ run whole. whole;
-    expects = may;
-  };
-}
 
 -- a step more leaves all that no step changes
 rest_after : (step : LaneStep) (found : ℕ) (old now new : Knows) → KeepsRest old now → Told step now found new

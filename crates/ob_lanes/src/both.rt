@@ -7,7 +7,8 @@ ghost use Rattle.ob_core.specs.Step.{raised_word, lowered_word};
 
 use ob_types::{Change, WaterMark, unpack};
 
-/// How many totals the low half can tell apart, which is bit 0 of the high half.
+/// How many totals the low half can tell apart, which is bit 0 of the high half: that of `ob_types::packed`, and the
+/// contracts below hold the two together.
 pub const HALF: u64 = 1 << 32;
 
 /// The word of both.

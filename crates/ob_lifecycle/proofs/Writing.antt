@@ -101,28 +101,6 @@ memory_last_of_put why managed message new (Err left) own refused is events stan
     accepts_says _ _ (obeys.no_memory_last refl (commands_in events) stands.commands) in
     ap (option_map (λ refusal. Refused refusal)) none ∙ others_first _ _ _ _ _ (own events stands)
 
--- what the connection refuses first, a write that is refused by it answers; and if it refuses nothing, it accepts
-answers_first : (first : Option Refusal) (refusal : Refusal) (reply : Reply) → Some refusal ≡ first → Err refusal ≡ unless_refused first reply
-answers_first None refusal reply is = absurd (cc)
-answers_first (Some other) refusal reply is = cc
-
-refusing_obeys : (old : Connected) (message : Message) (refusal : Refusal) → Refuses old (Write message) (Some refusal)
-    → ¬ (Some refusal ≡ Some NoMemory) → Obeys old (Write message) written_reply (declined refusal) old
-refusing_obeys old message refusal first other = record {
-  answer = λ memory. record { says = λ commands stands. answers_first _ refusal _ (first commands stands) };
-  stands = λ commands stands. stands;
-  settings = refl;
-  refused = refl;
-  no_memory_last = λ is. absurd (other (cc));
-}
-
-ok_of_none : (first : Option Refusal) (reply : Reply) → None ≡ first → true ≡ is_ok (unless_refused first reply)
-ok_of_none None reply is = refl
-ok_of_none (Some refusal) reply is = absurd (cc)
-
-pub accepts_of_none : (old : Connected) (message : Message) → Refuses old (Write message) None → Accepts old (Write message)
-accepts_of_none old message first commands stands = ok_of_none _ _ (first commands stands)
-
 -- the fault of a write that the connection was asked for is its first
 pub first_of_put : {E : Type 0} (why : E → WriteFault) (managed : Managed) (message : Message) (new : Connected) (result : Result Written E)
     → Gives managed (own_fault message) None
@@ -304,12 +282,6 @@ put_writes why old message new tally strain result own wrote room refused no_end
   memory_last = memory_last_of_put why old message new result own refused;
   brings = put_brings why old message new tally strain result own wrote refused counts strains;
 }
-
--- a write that the connection would refuse
-pub refusing_writes : (managed : Managed) (message : Message) (refusal : Refusal)
-    → Refuses managed.connection (Write message) (Some refusal) → ¬ (Some refusal ≡ Some NoMemory)
-    → IsNotWritten managed.connection message (Refused refusal) managed.connection
-refusing_writes managed message refusal first other = refusing_obeys managed.connection message refusal first other
 
 -- a block that is not shared, since a write of it would be refused
 pub unshared_writes : (old : Managed) (strain : Strain) (message : Message) (why : WriteFault)

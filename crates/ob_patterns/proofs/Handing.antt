@@ -5,7 +5,7 @@ use Rattle.std.specs.Prelude.{Result, Some, slice_get, count_by}
 use Rattle.std.proofs.lemmas.List.Sums.{sum_by-append}
 use Rattle.std.proofs.lemmas.Option.{same_Some, slice_get_within}
 use Rattle.ob_connection.specs.Connected.{Connected}
-use Rattle.ob_patterns.specs.Broadcasting.{AreHanded, Broadcasts, IsHanded, is_handed, is_refused, is_unwritable}
+use Rattle.ob_patterns.specs.Broadcasting.{AreHanded, IsHanded, is_handed, is_refused, is_unwritable}
 use Rattle.ob_patterns.specs.declared.broadcasting.LeftOut.{LeftOut}
 use Rattle.ob_patterns.specs.declared.broadcasting.Reached.{Reached}
 
@@ -43,19 +43,6 @@ pub record HandsOn (old : List Connected) (bytes : List ℕ) (reached : Reached)
   pub counts_got : reached.got ≡ count_by is_handed handed
   pub counts_unwritable : reached.unwritable ≡ count_by is_unwritable handed
   pub counts_refused : reached.refused ≡ count_by is_refused handed
-
--- none at first
-pub none_handed : (old : List Connected) (bytes : List ℕ) →
-    HandsOn old bytes (record { got = 0; unwritable = 0; refused = 0 }) 0 old
-none_handed old bytes = record {
-  handed = [];
-  so_far = refl;
-  each = λ place before after got was is new. absurd (cc);
-  rest = λ k within. refl;
-  counts_got = refl;
-  counts_unwritable = refl;
-  counts_refused = refl;
-}
 
 -- whom it reached, with one connection more
 abbrev pub with_one_more : Reached → Result Unit LeftOut → Reached
@@ -121,16 +108,3 @@ module _ {old now : List Connected} {bytes : List ℕ} {reached : Reached} {plac
     counts_unwritable = counts_more is_unwritable on.counts_unwritable;
     counts_refused = counts_more is_refused on.counts_refused;
   }
-
--- all of them
-pub all_handed : {old new : List Connected} {bytes : List ℕ} {reached : Reached} {place : ℕ} →
-    length new ≡ length old → length old ≤ place → place ≤ length old → HandsOn old bytes reached place new →
-    Broadcasts old bytes reached new
-all_handed same least most on = record {
-  handed = on.handed;
-  one_each = omega (arith, on.so_far);
-  each = on.each;
-  counts_got = on.counts_got;
-  counts_unwritable = on.counts_unwritable;
-  counts_refused = on.counts_refused;
-}

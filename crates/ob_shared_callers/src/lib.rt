@@ -120,7 +120,8 @@ fn write<L: Named, R: Wait>(
     buffer.call(rt, caller, Command::Flush).0
 }
 
-/// The promise of the first write of a caller, by its receipts.
+/// The promise of the first write of a caller, by its receipts. It shows how a writer finds what to wait for; no clause
+/// holds it.
 fn first_promise<L: Named>(caller: &Done<L>) -> Option<PromiseId> {
     match &caller.receipts.first()?.reply {
         Ok(reply) => match reply.answer {

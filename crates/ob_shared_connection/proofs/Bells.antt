@@ -1,5 +1,5 @@
 -- Bells, and what is known of them.
-use Rattle.std.proofs.Common.{◌≡◌, ◌≢◌, ◌⊎◌, inl, inr, ⊎_elim, ℕ, true, false, List, ◌<◌, set, get_or}
+use Rattle.std.proofs.Common.{◌≡◌, ◌≢◌, ◌⊎◌, inl, inr, ⊎_elim, ℕ, true, List, ◌<◌, set, get_or}
 use Rattle.std.proofs.Common.{refl, sym, ap, ◌∙◌, arith}
 use Rattle.std.proofs.lemmas.List.{get_or-set_other}
 use mathlib.Core.Option.{some}
@@ -49,31 +49,6 @@ other_bell words word next few waiter =
 pub none_silent : (waiter : Waiter) → is_silent waiter unheard ≡ true → ⊥
 none_silent Writer never = cc never
 none_silent Sender never = cc never
-
-pub none_owed : (waiter : Waiter) → is_owed waiter unheard ≡ false
-none_owed Writer = refl
-none_owed Sender = refl
-
-pub awaited_unheard : (waiter : Waiter) → awaited waiter unheard ≡ unheard
-awaited_unheard Writer = refl
-awaited_unheard Sender = refl
-
--- what is known of a bell once it was heard, was silenced, or is waited at
-pub silent_now : (waiter : Waiter) (bells : Bells) → is_silent waiter (silent waiter bells) ≡ true
-silent_now Writer bells = refl
-silent_now Sender bells = refl
-
-pub silenced_now : (waiter : Waiter) (bells : Bells) → is_silent waiter (silenced waiter bells) ≡ true
-silenced_now Writer bells = refl
-silenced_now Sender bells = refl
-
-pub owed_then : (waiter : Waiter) (bells : Bells) → is_owed waiter (silent waiter bells) ≡ is_owed waiter bells
-owed_then Writer bells = refl
-owed_then Sender bells = refl
-
-pub owed_now : (waiter : Waiter) (bells : Bells) → is_owed waiter (silenced waiter bells) ≡ true
-owed_now Writer bells = refl
-owed_now Sender bells = refl
 
 pub awaited_now : (waiter : Waiter) (bells : Bells) → is_silent waiter (awaited waiter bells) ≡ true → ⊥
 awaited_now Writer bells never = cc never

@@ -1,15 +1,10 @@
 -- What holds of who waits.
-use Rattle.std.proofs.Common.{◌≡◌, ◌++◌, Bool, true, List, [], refl, sym, ap, ◌∙◌, subst, append_assoc}
+use Rattle.std.proofs.Common.{◌≡◌, ◌++◌, true, List, [], refl, sym, ap, ◌∙◌, subst, append_assoc}
 use Rattle.std.proofs.lemmas.List.Elements.{All-append, All-nil}
 use Rattle.std.proofs.lemmas.List.{append-nil}
 use Rattle.ob_types.specs.declared.command.Command.{Command}
 use Rattle.ob_shared_connection.specs.Calls.{IsLock}
-use Rattle.ob_shared_connection.specs.Values.{commands_by, commands_of, leaves_flushed, HandleValue, Held}
-use Rattle.ob_shared_connection.specs.Ruled.{hearing_view, settings_of, shown_view}
-use Rattle.ob_shared_connection.specs.Steps.{Holds, Hushes, IsRung, Knows, MayLeave}
-use Rattle.ob_shared_connection.specs.Glances.{is_due, moment_after}
-use Rattle.ob_shared_connection.specs.declared.bell.Waiter.{Waiter}
-use Rattle.ob_shared_connection.specs.declared.bell.Waiter.TheVariants.{Writer, Sender}
+use Rattle.ob_shared_connection.specs.Values.{commands_by, leaves_flushed, HandleValue, Held}
 use Rattle.ob_shared_connection.specs.declared.call.Call.{Call}
 use Rattle.ob_shared_connection.proofs.Lists.{commands_by-append}
 
@@ -55,30 +50,3 @@ pub locked_anew : (old : HandleValue) (now looked again : Held) (left : HandleVa
 locked_anew old now looked again left one same is two =
     lock_again old now again one
     (subst (λ (handle : HandleValue). IsLock handle again) (is ∙ ap (λ (held : Held). held.handle) same) two)
-
--- who had both bells ring that had to may let the lock go
-pub may_leave : (old shown heard last : Knows) (writers work owed owed_next : Bool) → Holds old
-    → shown ≡ (shown_view old.0, old.1) → Hushes Writer writers owed shown heard → Hushes Sender work owed_next heard last
-    → writers ≡ is_due (moment_after Writer (settings_of old.0) (commands_of old.0.seen))
-    → work ≡ is_due (moment_after Sender (settings_of old.0) (commands_of old.0.seen)) → MayLeave last
-may_leave old shown heard last writers work owed owed_next holds is first second writers_are work_is =
-    let view = hearing_view last.0.bells (shown_view old.0) in
-    let same : last ≡ (view, old.1) =
-    second.is
-    ∙ ap (λ (me : Knows). (hearing_view last.0.bells me.0, me.1))
-    (first.is ∙ ap (λ (me : Knows). (hearing_view heard.0.bells me.0, me.1)) is) in
-    subst MayLeave (sym same) (record {
-      lock = record {
-        seat = record { named = holds.lock.seat.named; there = holds.lock.seat.there; own = holds.lock.seat.own };
-        holds = holds.lock.holds;
-        slot = holds.lock.slot;
-      };
-      left = holds.left;
-      covered = holds.covered;
-      shows = refl;
-      rung = rung;
-    })
-  where
-    rung : (waiter : Waiter) → IsRung waiter (hearing_view last.0.bells (shown_view old.0))
-    rung Writer = λ due. (second.others Writer (λ e. cc e)).0 ∙ first.quiet (writers_are ∙ due)
-    rung Sender = λ due. second.quiet (work_is ∙ due)

@@ -53,7 +53,7 @@ AllUnitsAreSent = sent_units settings (written ++ sending) ≡ 10
 abbrev pub given_up : List Record
 given_up = accepted (RemoveBytes 2) ∷ accepted (Progress 1) ∷ accepted (RemoveWith (record { 0 = 9 })) ∷ []
 
--- of it those two are sent alone, and its progress sends no units
+-- of it only those two are sent, and its progress sends no units
 abbrev pub GivenUpIsNotSent : Type 0
 GivenUpIsNotSent = (sent_bytes settings (written ++ given_up) ≡ 1 ∷ 2 ∷ [])
     × (sent_units settings (written ++ given_up) ≡ 0)

@@ -46,6 +46,7 @@ fn is_of(receipt: &Receipt, kept: &Record) -> bool
 fn asks_same(one: &Command, other: &Command) -> bool
     ensures { IsTrue result ↔ (one.now ≡ other.now) }
 {
+    // a block goes by `are_same`, which compares eight bytes at a time
     let Command::Write(Message::Block(bytes)) = one else {
         return one == other;
     };

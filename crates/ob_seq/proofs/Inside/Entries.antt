@@ -2,7 +2,7 @@
 use Rattle.ob_seq.proofs.Words.{[], ◌≡◌, ℕ, ◌+◌, ◌<◌, List, ◌∷◌, length, map, take, drop, get_or, refl, sym, ap, ◌∙◌, sum_by}
 use Rattle.ob_seq.proofs.Words.{take-append-drop, sum_by-append, sum_by-cons, Entry, PendingEntry, pending_entry}
 use Rattle.ob_seq.proofs.Words.{true, false, none_taken_back, drop, arith, pending_entries, counted, Outcome, Unsent, whole, pending_total}
-use Rattle.std.proofs.lemmas.List.{get_or-map, drop_more}
+use Rattle.std.proofs.lemmas.List.{get_or-map}
 
 -- what is counted of entries as contracts see them is counted of them as the code keeps them
 pub sum_seen : (see : Entry → PendingEntry) (f : PendingEntry → ℕ) (items : List Entry) →
@@ -34,9 +34,3 @@ module _ (entry : Entry) (entries : List Entry) (none : none_taken_back (entry �
 
   pub rest_not_back : none_taken_back entries ≡ true
   rest_not_back = grind (arith, none)
-
--- nor was one behind a place
-pub behind_not_back : (items : List Entry) (n : ℕ) (entry : Entry) → n < length items →
-    none_taken_back (drop n items) ≡ true → none_taken_back (drop (n + 1) items) ≡ true
-behind_not_back items n entry within none =
-    rest_not_back (get_or items n entry) (drop (n + 1) items) (rw (drop_more items n entry within) at none)

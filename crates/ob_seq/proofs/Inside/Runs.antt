@@ -117,12 +117,6 @@ before_last : (runs : List Run) (run : Run) (before : Outcome) →
     outcome_before (runs ++ run ∷ []) (suc (length runs)) before ≡ run.outcome
 before_last runs run before = grind (arith, get_or_push)
 
-pub last_more : (runs : List Run) (run : Run) →
-    outcome_before (runs ++ run ∷ []) (length (runs ++ run ∷ [])) Success ≡ run.outcome
-last_more runs run =
-    let size : length (runs ++ run ∷ []) ≡ suc (length runs) = omega (arith, length_push runs run) in
-    ap (λ count. outcome_before (runs ++ run ∷ []) count Success) size ∙ before_last runs run Success
-
 differ_at : (runs : List Run) (run : Run) → run.outcome ≢ outcome_before runs (length runs) Success →
     ((place : ℕ) → place < length runs → outcome_before runs (suc place) Success ≢ outcome_before runs place Success) →
     (place : ℕ) (early : Bool) → ltb place (length runs) ≡ early → place ≤ length runs →

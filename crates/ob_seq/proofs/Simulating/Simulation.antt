@@ -51,7 +51,3 @@ simulates_by {limit = limit} {command = command} {old = old} {step = step} setti
 pub settled_where_open : (old : Pending) (step : Step) → old.closed ≡ false →
     settled_open step ≡ settled_by_step old step
 settled_where_open old step unclosed = rw unclosed
-
--- a step whose reply settles nothing settles nothing
-pub settled_nothing : (old : Pending) (step : Step) → step.reply.settled ≡ [] → 0 ≡ settled_by_step old step
-settled_nothing old step nothing = grind arith

@@ -44,10 +44,6 @@ ends_with grammar script count rest fault further stands here = (
   stands.fault ∙ ap (first_fault (count + 1)) here,
 )
 
--- before the first line
-pub stands_first : {L : Type 0} (grammar : Grammar L) (script : List ℕ) → StandsAt grammar script 0 script
-stands_first grammar script = record { left = refl; fault = refl }
-
 -- if nothing is left, the lines end without a fault
 pub ends_at_nil : {L : Type 0} (grammar : Grammar L) (script : List ℕ) (count : ℕ) (rest : List ℕ)
     → StandsAt grammar script count rest → eqb (length rest) 0 ≡ true → EndsAt grammar script count None

@@ -58,11 +58,6 @@ pub behind-Ok : (front : List ℕ) (number : ℕ) (rest : Result (List ℕ) Line
 behind-Ok front number (Ok numbers) = ap Ok (sym (append_assoc front (number ∷ []) numbers))
 behind-Ok front number (Err fault) = refl
 
--- a faulty word ends the reading
-pub behind-Err : (front : List ℕ) (fault : LineFault) (rest : Result (List ℕ) LineFault)
-    → behind front (before_numbers (Err fault) rest) ≡ Err fault
-behind-Err front fault rest = refl
-
 -- the numbers from a place on, by the number at that place
 pub numbers_in-drop : (ranges : List Range) (i : ℕ) (d : Range) (word : List ℕ) (words : List (List ℕ))
     → i < length ranges

@@ -40,15 +40,6 @@ trace_of-whole language script e =
     ap (λ o. trace_of_lines language script ++ text_unless o (language.texts.last_text (script_lines language.grammar script)))
     (sym e)
 
--- the trace of a script with a fault
-pub trace_of-cut : {L : Type 0} (language : Language L) (script : List ℕ) (fault : ℕ × LineFault)
-    → script_fault language.grammar script ≡ Some fault
-    → trace_of_lines language script ≡ trace_of language script
-trace_of-cut language script fault e =
-    sym (append-nil (trace_of_lines language script))
-    ∙ ap (λ o. trace_of_lines language script ++ text_unless o (language.texts.last_text (script_lines language.grammar script)))
-    (sym e)
-
 -- the trace of all lines is that of the first *n* lines
 pub all_lines : {L : Type 0} (language : Language L) (script : List ℕ)
     → trace_of_first (length (script_lines language.grammar script)) language script ≡ trace_of_lines language script
@@ -72,11 +63,6 @@ HasTraced-kept None held out waiting left text traced kept = tt
 HasTraced-kept (Some x) None out waiting left text traced kept = absurd traced
 HasTraced-kept (Some x) (Some y) None waiting left text traced kept = absurd kept
 HasTraced-kept (Some x) (Some y) (Some z) waiting left text traced kept = kept ∙ traced
-
--- nothing is traced at the start
-pub HasTraced-nil : (start : Option (List ℕ)) (waiting : List ℕ) → waiting ≡ [] → HasTraced start start waiting []
-HasTraced-nil None waiting e = tt
-HasTraced-nil (Some x) waiting e = ap (λ t. x ++ t) e
 
 -- what ends behind some first lines of which the trace stands has the trace of all lines
 pub traced_whole : {L : Type 0} (language : Language L) (script : List ℕ) (count : ℕ) (fault : Option (ℕ × LineFault))
