@@ -2,6 +2,8 @@
 pub mod AcceptedCounts
 pub mod CountedRecords
 pub mod Ending
+pub mod Handing
 pub mod Quiet
 pub mod Receipts
 pub mod Settled
+pub mod TrueCounts

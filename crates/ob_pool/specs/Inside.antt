@@ -1,6 +1,6 @@
--- How a plan keeps its commands, plans without a fault, what is counted of records, all numbers at once, and what
--- callers hand in at the end of a history, all together. No public clause cites this module.
-use Rattle.std.specs.List.{All}
+-- How a plan keeps its commands, plans without a fault, what is counted of records and of receipts, all numbers at
+-- once, and what callers hand in at the end of a history, all together. No public clause cites this module.
+use Rattle.std.specs.List.{All, range_with_len}
 use Rattle.std.specs.Prelude.{◌≡◌, ℕ, ◌<◌, ◌≤◌, List, length, drop, replicate, flat_map, slice_index_or, map, take}
 use Rattle.std.specs.Prelude.{None, ◌+◌, ◌^◌, cond, [], count_by}
 use Rattle.ob_types.specs.Marks.{Marks}
@@ -10,6 +10,8 @@ use Rattle.ob_types.specs.declared.estimate.Estimate.{Estimate}
 use Rattle.ob_types.specs.declared.promise.Outcome.{Outcome}
 use Rattle.ob_types.specs.declared.promise.PromiseId.{PromiseId}
 use Rattle.ob_history.specs.History.{IsBeginning}
+use Rattle.ob_history.specs.Receipts.{record_of}
+use Rattle.ob_history.specs.declared.receipt.Receipt.{Receipt}
 use Rattle.ob_history.specs.declared.record.Record.{Record}
 use Rattle.ob_shared.specs.Calls.{HandsInAll, IsAsOpened, Opened, Handed, made_by}
 use Rattle.ob_pool.specs.Drive.{room_of, rooms_of, plans_fault}
@@ -91,6 +93,14 @@ counts_by command = record no_counts {
   taken = removed_by command;
 }
 
+-- what an outcome is counted as
+abbrev pub counts_as : Outcome → Counts
+counts_as outcome = record no_counts {
+  success = cond (is_success outcome) 1 0;
+  failed = cond (is_failed outcome) 1 0;
+  cancelled = cond (is_cancelled outcome) 1 0;
+}
+
 -- what settlements are counted as
 abbrev pub counts_with : List (PromiseId × Outcome) → Counts
 counts_with settlements = record no_counts {
@@ -113,6 +123,10 @@ plus counts more = record {
   cancelled = counts.cancelled + more.cancelled;
 }
 
+-- the counts of receipts, of which *n* callers are writers, are those of the records that they are of
+abbrev pub counts_in : ℕ → List Receipt → Counts
+counts_in writers receipts = counts_of writers (map record_of receipts)
+
 -- each number fits 64 bits
 pub record DoFit (counts : Counts) : Type 0 where
   pub writes : counts.writes < 2 ^ 64
@@ -124,6 +138,24 @@ pub record DoFit (counts : Counts) : Type 0 where
   pub success : counts.success < 2 ^ 64
   pub failed : counts.failed < 2 ^ 64
   pub cancelled : counts.cancelled < 2 ^ 64
+
+-- numbers that are counted by somebody who does not know whether they fit are the true ones, if those do
+abbrev pub AreTrueIfFit : Counts → Counts → Type 0
+AreTrueIfFit true_counts counts = DoFit true_counts → counts ≡ true_counts
+
+-- all receipts that callers hand in, caller by caller
+abbrev pub receipts_in : List Handed → List Receipt
+receipts_in handed = flat_map (λ one. one.receipts) handed
+
+-- the receipts that callers hand in are counted, if their counts fit
+abbrev pub AreCounted : ℕ → List Handed → Counts → Type 0
+AreCounted writers handed counts = AreTrueIfFit (counts_in writers (receipts_in handed)) counts
+
+-- callers that hand in are *n* writers, who are numbered from 0 on, and the one behind them
+pub record AreNumbered (writers : ℕ) (dones : List Handed) (done : Handed) : Type 0 where
+  pub callers : map (λ one. one.maker.caller) dones ≡ range_with_len 0 (length dones)
+  pub count : length dones ≡ writers
+  pub last : done.maker.caller ≡ writers
 
 -- callers have handed in a whole history: each has handed in all its records, with a receipt of each that it made; they
 -- made as many as there are, and what each had seen begins them

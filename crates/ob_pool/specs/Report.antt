@@ -2,14 +2,13 @@
 -- tells.
 use Rattle.std.specs.Int.{bit_at}
 use Rattle.std.specs.List.{range_with_len, All}
-use Rattle.std.specs.Prelude.{ℕ, Bool, true, false, not, ◌&&◌, ◌==◌, nat_lt, is_some, List, count_by, sum_by, ◌≡◌, map}
+use Rattle.std.specs.Prelude.{ℕ, Bool, false, not, ◌&&◌, ◌==◌, nat_lt, is_some, List, count_by, sum_by, ◌≡◌, map}
 use Rattle.std.specs.Prelude.{Some, slice_get, ◌+◌, ◌<◌, ◌≤◌, length}
 use Rattle.ob_types.specs.Replies.{is_success, is_failed, is_cancelled}
 use Rattle.ob_types.specs.Marks.{Marks}
 use Rattle.ob_types.specs.Traits.{traits_of, is_write}
 use Rattle.ob_types.specs.declared.command.Command.{Command}
 use Rattle.ob_types.specs.declared.promise.Outcome.{Outcome}
-use Rattle.ob_types.specs.declared.promise.Outcome.TheVariants.{Success, Failed, Cancelled}
 use Rattle.ob_core.specs.Bits.{is_set}
 use Rattle.ob_seq.specs.Pending.{times_settled}
 use Rattle.ob_history.specs.History.{accepted_commands, is_accepted, History, IsLegal}

@@ -13,8 +13,10 @@ use Rattle.ob_transport.specs.Sent.{Sent, sent_in}
 use Rattle.ob_transport.specs.Sink.{Content}
 use Rattle.ob_lanes.specs.RunningLane.{RunningLane, WordsValue}
 use Rattle.ob_pool.specs.Drive.{ComesOfWork, room_of}
+use Rattle.ob_pool.specs.Inside.{AreCounted}
 use Rattle.ob_pool.specs.Report.{is_failing}
 use Rattle.ob_pool.specs.declared.fault.DriveFault.{DriveFault}
+use Rattle.ob_pool.specs.declared.report.counts.Counts.{Counts}
 
 -- what a writer begins with: its share, its plan, and the room of its lane
 pub record Job : Type 0 where
@@ -93,12 +95,13 @@ pub record MayBegin (used : WordsValue) (estimate : Estimate) (task writers : �
   pub room : room_for jobs ≤ lane.lane.room
   pub whole : lane.lane.room ≤ lane.words.grant.room
 
--- jobs of *n* writers have been worked on: their lane is back, and they are done, or a fault of the work ended
--- them
+-- jobs of *n* writers have been worked on: their lane is back, and they are done, and their receipts are counted, or a
+-- fault of the work ended them
 pub record JobsHaveEnded {Z : Type 0} (writers : ℕ) (jobs : List Job) (lane back : RunningLane)
-    (handed : Result (Vec Handed Z) DriveFault) : Type 0 where
+    (handed : Result (Vec Handed Z) DriveFault) (counts : Counts) : Type 0 where
   pub lane_back : IsBack lane back
   pub done : IfOk handed (λ dones. AreDone jobs dones.items)
+  pub counted : IfOk handed (λ dones. AreCounted writers dones.items counts)
   pub fault : IfErr handed (ComesOfWork writers)
 
 -- records have grown by those of one caller alone

@@ -2,6 +2,8 @@ mod counting;
 mod counts;
 mod ending;
 
+pub use counting::counts_in;
+pub use counts::Counts;
 pub use ending::into_report;
 use ob_history::Recorded;
 

@@ -10,10 +10,12 @@ ghost use Rattle.std.specs.Prelude.{◌≡◌, ℕ, Ok, IfErr, IfOk, IfSome, IsS
 ghost use Rattle.std.specs.Thread.{IsSync};
 ghost use Rattle.ob_transport.specs.Pass.{MayOffer};
 ghost use Rattle.ob_pool.specs.Drive.{ComesOfWork};
+ghost use Rattle.ob_pool.specs.Inside.{AreCounted};
 ghost use Rattle.ob_pool.specs.Threads.{AreDone, IsBack, JobsHaveEnded, MayBegin, HasTransported};
 
 use crate::fault::DriveFault;
 use crate::gate::Gate;
+use crate::report::Counts;
 pub use context::Context;
 use heed::wait_for_transport;
 pub use job::Job;
@@ -35,12 +37,14 @@ pub struct Start<L: Named> {
     pub share: Share<L>,
 }
 
-/// What they come to: the lane of the writers with all its room, what these hand in, and what the transport does.
+/// What they come to: the lane of the writers with all its room, what these hand in, with the counts of their receipts, and
+/// what the transport does.
 #[derive(Drop)]
 pub struct Ended<L: Named> {
     pub lane: Lane,
     pub dones: Vec<Done<L>>,
     pub done: Done<L>,
+    pub counts: Counts,
 }
 
 /// Lets all writers work, and the transport beside them, until all have ended. The fault is the first of the writers', or
@@ -62,6 +66,7 @@ pub fn run<
     requires offers { MayOffer context.now.limits }
     ensures lane { IfOk result (λ ended. IsBack start.writers.lane ended.lane) }
     ensures done { IfOk result (λ ended. AreDone start.writers.jobs.items ended.dones.items) }
+    ensures counted { IfOk result (λ ended. AreCounted context.now.writers ended.dones.items ended.counts) }
     ensures transported { IfOk result (λ ended.
         HasTransported L.opened.settings start.share.maker (S.content sink.old) (S.content sink.new) ended.done) }
     ensures fault { IfErr result (ComesOfWork context.now.writers) }
@@ -77,7 +82,8 @@ pub fn run<
         requires ready { IsSomeAnd waiting (λ writers. MayBegin context.now.words context.now.estimate context.now.task
             context.now.writers writers.lane writers.jobs.items) }
         ensures { IfSome waiting.entry (λ writers.
-            JobsHaveEnded context.entry.now.writers writers.jobs.items writers.lane result.lane result.dones) }
+            JobsHaveEnded context.entry.now.writers writers.jobs.items writers.lane result.lane result.dones
+            result.counts) }
     { writers_side(rt, gate, context, waiting.take()) };
     let mut transport = || transport_side(rt, &mut side, sink);
     let (done, writers_end) = join_mut(rt, &mut transport, &mut writers);
@@ -91,15 +97,21 @@ fn end_together<L: Named>(
 ) -> Result<Ended<L>, DriveFault>
     ensures lane { IfOk result (λ ended. ended.lane ≡ writers.lane) }
     ensures dones { IfOk result (λ ended. writers.dones ≡ Ok ended.dones) }
+    ensures counts { IfOk result (λ ended. ended.counts ≡ writers.counts) }
     ensures done { IfOk result (λ ended. done ≡ Ok ended.done) }
     ensures fault { (count : ℕ) → IfErr writers.dones (ComesOfWork count) → IfErr done (ComesOfWork count)
         → IfErr result (ComesOfWork count) }
 {
-    let WritersEnd { lane, dones } = writers;
+    let WritersEnd {
+        lane,
+        dones,
+        counts,
+    } = writers;
     Ok(Ended {
         lane,
         dones: dones?,
         done: done?,
+        counts,
     })
 }
 
@@ -143,7 +155,7 @@ fn writers_side<L: Named + Send + Sync, R: Threads + Wait + Clock + Sync, G: Gat
     requires { IsSomeAnd start (λ writers. MayBegin context.now.words context.now.estimate context.now.task
         context.now.writers writers.lane writers.jobs.items) }
     ensures { IfSome start (λ writers.
-        JobsHaveEnded context.now.writers writers.jobs.items writers.lane result.lane result.dones) }
+        JobsHaveEnded context.now.writers writers.jobs.items writers.lane result.lane result.dones result.counts) }
 {
     let Some(writers) = start else {
         // a join lets each side begin once

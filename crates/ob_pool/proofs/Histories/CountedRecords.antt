@@ -1,8 +1,8 @@
--- The numbers of records, counted record by record.
-use Rattle.std.proofs.Common.{◌≡◌, ℕ, ◌+◌, ◌<◌, ◌^◌, Bool, List, [], ◌∷◌, ◌++◌, length, take, drop, sym, ap, ◌∙◌}
-use Rattle.std.proofs.Common.{cond, subst, arith}
+-- The numbers of records, and of receipts, counted one by one.
+use Rattle.std.proofs.Common.{◌≡◌, ℕ, ◌+◌, ◌<◌, ◌^◌, Bool, List, [], ◌∷◌, ◌++◌, length, map, take, sym, ap, ◌∙◌}
+use Rattle.std.proofs.Common.{cond, arith}
 use Rattle.std.specs.Prelude.{◌&&◌, nat_lt, not, count_by, slice_index_or}
-use Rattle.std.proofs.lemmas.List.{drop_more, take-append-drop, take_more}
+use Rattle.std.proofs.lemmas.List.{map-append, take_more}
 use Rattle.std.proofs.lemmas.List.Sums.{count_by-le-length, sum_by-append}
 use Rattle.ob_types.specs.Traits.{is_write}
 use Rattle.ob_types.specs.declared.command.Command.{Command}
@@ -11,11 +11,12 @@ use Rattle.ob_types.specs.declared.promise.PromiseId.{PromiseId}
 use Rattle.ob_history.specs.History.{accepted_commands, is_accepted, History, IsBounded}
 use Rattle.ob_history.specs.Seen.{settlements_in}
 use Rattle.ob_history.specs.declared.record.Record.{Record}
-use Rattle.ob_pool.specs.Inside.{DoFit, counts_of, plus}
+use Rattle.ob_history.specs.Receipts.{record_of}
+use Rattle.ob_history.specs.declared.receipt.Receipt.{Receipt}
+use Rattle.ob_pool.specs.Inside.{DoFit, counts_in, counts_of, plus}
 use Rattle.ob_types.specs.Replies.{is_cancelled, is_failed, is_success}
 use Rattle.ob_pool.specs.Report.{is_cancel, is_flush, is_user_bit, settled_as}
 use Rattle.ob_pool.specs.Report.{taken_of}
-use Rattle.ob_pool.specs.declared.report.counts.Counts.{Counts}
 use Rattle.ob_pool.proofs.Histories.AcceptedCounts.{accepted_at_most, accepted_of_both, taken_of_both}
 use Rattle.ob_pool.proofs.Histories.Settled.{Tally, settlements_of_both}
 
@@ -48,40 +49,22 @@ counts_of_both writers records more =
         ∙ sum_by-append (λ (settlement : PromiseId × Outcome). cond {A = ℕ} (kind settlement.1) 1 0)
         (settlements_in records) (settlements_in more)
 
--- the counts of one record more
-pub counts_more : (writers : ℕ) (records : List Record) (index : ℕ) (one : Record) → index < length records →
-    one ≡ slice_index_or records index one →
-    counts_of writers (take (index + 1) records)
-    ≡ plus (counts_of writers (take index records)) (counts_of writers (one ∷ []))
-counts_more writers records index one within is =
-    ap (counts_of writers) (take_more records index one within ∙ ap (λ last. take index records ++ last ∷ []) (sym is))
-    ∙ counts_of_both writers (take index records) (one ∷ [])
+-- and of two lists of receipts
+pub counts_in_both : (writers : ℕ) (receipts more : List Receipt) →
+    counts_in writers (receipts ++ more) ≡ plus (counts_in writers receipts) (counts_in writers more)
+counts_in_both writers receipts more =
+    ap (counts_of writers) (map-append record_of receipts more)
+    ∙ counts_of_both writers (map record_of receipts) (map record_of more)
 
-part_fits : (counts more rest : Counts) → DoFit (plus counts (plus more rest)) → DoFit (plus counts more)
-part_fits counts more rest fits = record {
-  writes = omega arith;
-  flushes = omega arith;
-  cancels = omega arith;
-  bits = omega arith;
-  refused = omega arith;
-  taken = omega arith;
-  success = omega arith;
-  failed = omega arith;
-  cancelled = omega arith;
-}
-
--- if the counts of all records fit, those so far do with the next record
-pub counts_fit : (writers : ℕ) (records : List Record) (index : ℕ) (one : Record) → index < length records →
-    one ≡ slice_index_or records index one → DoFit (counts_of writers records) →
-    DoFit (plus (counts_of writers (take index records)) (counts_of writers (one ∷ [])))
-counts_fit writers records index one within is fits =
-    let rest = drop (index + 1) records in
-    let parts : records ≡ take index records ++ one ∷ rest =
-    sym (take-append-drop index records) ∙ ap (λ others. take index records ++ others)
-    (drop_more records index one within ∙ ap (λ first. first ∷ rest) (sym is)) in
-    let all = ap (counts_of writers) parts ∙ counts_of_both writers (take index records) (one ∷ rest)
-    ∙ ap (plus (counts_of writers (take index records))) (counts_of_both writers (one ∷ []) rest) in
-    part_fits _ _ (counts_of writers rest) (subst DoFit all fits)
+-- the counts of receipts and of one more
+pub counts_more : (writers : ℕ) (receipts : List Receipt) (index : ℕ) (one : Receipt) → index < length receipts →
+    one ≡ slice_index_or receipts index one →
+    counts_in writers (take (index + 1) receipts)
+    ≡ plus (counts_in writers (take index receipts)) (counts_in writers (one ∷ []))
+counts_more writers receipts index one within is =
+    ap (counts_in writers)
+    (take_more receipts index one within ∙ ap (λ last. take index receipts ++ last ∷ []) (sym is))
+    ∙ counts_in_both writers (take index receipts) (one ∷ [])
 
 -- the counts of a history fit
 pub counts_fit_word : (writers : ℕ) (history : History) → IsBounded history → taken_of history.records < 2 ^ 64 →

@@ -1,8 +1,8 @@
 -- A finished history in which each caller has handed in what it has done.
 use Rattle.std.proofs.Common.{◌≡◌, ℕ, zero, suc, ◌+◌, ◌<◌, ◌≤◌, Bool, true, false, List, [], ◌∷◌, ◌++◌, length, map}
-use Rattle.std.proofs.Common.{cond, eqb, ltb, refl, sym, ap, ◌∙◌, subst, arith}
+use Rattle.std.proofs.Common.{cond, eqb, ltb, refl, sym, ap, ap₂, ◌∙◌, subst, arith}
 use Rattle.std.specs.Prelude.{◌&&◌, nat_lt, count_by, slice_get, slice_index_or, sum_by, Some}
-use Rattle.std.specs.List.{All}
+use Rattle.std.specs.List.{All, range_with_len}
 use Rattle.std.proofs.Math.Seq.{take-append_seam}
 use Rattle.std.proofs.lemmas.Bool.Decides.{nat_tests}
 use Rattle.std.proofs.lemmas.List.{length-map}
@@ -220,7 +220,7 @@ all_work_stands records dones plans same all =
     (All-map (Stands records) done_by dones
     (λ k d within. work_stands records (slice_index_or dones k d) (all k d within)))
 
-All-front : {X : Type 0} (P : X → Type 0) (xs ys : List X) → All P (xs ++ ys) → All P xs
+pub All-front : {X : Type 0} (P : X → Type 0) (xs ys : List X) → All P (xs ++ ys) → All P xs
 All-front P xs ys all = subst (All P) (take-append_seam xs ys) (All-take P (length xs) (xs ++ ys) all)
 
 -- how many records work have made together
@@ -296,3 +296,18 @@ module _ (records : List Record) (dones : List Handed) (done : Handed) (plans : 
   -- and what the history fails is what the last one failed
   pub failings_told : sum_by (count_by is_failing) plans ≡ 0 → failings_of records ≡ failings_in done.receipts
   failings_told none = failings_are_last records plans (commands_in done.receipts) stand its as_many none
+
+-- callers that have done the work of plans, one by one, are numbered
+pub numbered_from : (dones : List Handed) (caller : ℕ) (plans : List (List Command)) →
+    map done_by dones ≡ work_from caller plans →
+    (map (λ (one : Handed). one.maker.caller) dones ≡ range_with_len caller (length dones)) × (length dones ≡ length plans)
+numbered_from [] caller [] same = (refl, refl)
+numbered_from [] caller (plan ∷ plans) same = absurd (cc)
+numbered_from (one ∷ dones) caller [] same = absurd (cc)
+numbered_from (one ∷ dones) caller (plan ∷ plans) same =
+    let others : map done_by dones ≡ work_from (suc caller) plans = cc in
+    let its : done_by one ≡ record { caller = caller; made = length plan; commands = plan } = cc in
+    let first : one.maker.caller ≡ caller = ap (λ (work : Work). work.caller) its in
+    let next : suc caller ≡ caller + 1 = omega arith in
+    let rest = numbered_from dones (suc caller) plans others in
+    (ap₂ ◌∷◌ first (rest.0 ∙ ap (λ k. range_with_len k (length dones)) next), omega (arith, rest.1))

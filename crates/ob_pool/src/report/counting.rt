@@ -1,18 +1,20 @@
 //! The numbers of a finished history.
 
 ghost use Rattle.std.specs.Prelude.{◌≡◌};
-ghost use Rattle.ob_pool.specs.Inside.{DoFit, counts_of};
+ghost use Rattle.ob_pool.specs.Inside.{AreTrueIfFit, counts_in, counts_of};
 ghost use Rattle.ob_pool.specs.Report.{IsCounted};
 
 use crate::report::Report;
 use crate::report::counts::Counts;
 use ob_history::{
-    Record, Recorded, a_history_keeps_to_the_limits, a_history_settles_each_promise_once,
+    Receipt, Recorded, a_history_keeps_to_the_limits, a_history_settles_each_promise_once,
     a_history_tells_each_settled_promise,
 };
 
-/// The report of a finished history of *n* writers, with what is left of the words of the hand-off.
-pub fn report_of(recorded: Recorded, writers: u32, hand: (u64, u32)) -> Report
+/// The report of a finished history of *n* writers, whose counts are at hand, with what is left of the words of the
+/// hand-off.
+pub fn report_of(recorded: Recorded, counts: Counts, writers: u32, hand: (u64, u32)) -> Report
+    requires { AreTrueIfFit (counts_of writers recorded.records) counts }
     ensures recorded { result.recorded ≡ recorded }
     ensures counted { IsCounted writers result }
     ensures hand { result.hand ≡ hand }
@@ -20,7 +22,8 @@ pub fn report_of(recorded: Recorded, writers: u32, hand: (u64, u32)) -> Report
     a_history_keeps_to_the_limits();
     a_history_settles_each_promise_once();
     a_history_tells_each_settled_promise();
-    let counts = counts_in(recorded.records(), writers);
+    // for the proof alone: the records are legal, and few
+    let _records = recorded.records();
     Report {
         recorded,
         writes: counts.writes,
@@ -37,13 +40,12 @@ pub fn report_of(recorded: Recorded, writers: u32, hand: (u64, u32)) -> Report
     }
 }
 
-/// The counts of records, of which *n* callers are writers.
-fn counts_in(records: &[Record], writers: u32) -> Counts
-    requires { DoFit (counts_of writers records.now) }
-    ensures { result ≡ counts_of writers records.now }
+/// The counts of receipts, of which *n* callers are writers.
+pub fn counts_in(receipts: &[Receipt], writers: u32) -> Counts
+    ensures { AreTrueIfFit (counts_in writers receipts.now) result }
 {
     let mut counts = Counts::zero();
-    for one in records {
+    for one in receipts {
         counts.add(one, writers);
     }
     counts

@@ -5,11 +5,11 @@ ghost use Rattle.std.specs.Prelude.{◌≡◌, ◌≤◌, ◌++◌, [], ◌∷�
 ghost use Rattle.ob_history.specs.History.{IsBeginning};
 ghost use Rattle.ob_shared.specs.Calls.{HandsInAll, IsAsOpened, made_by};
 ghost use Rattle.ob_pool.specs.Drive.{ComesOfWork};
-ghost use Rattle.ob_pool.specs.Inside.{TellsEnd};
+ghost use Rattle.ob_pool.specs.Inside.{AreCounted, AreNumbered, TellsEnd};
 
 use crate::fault::DriveFault;
 use crate::report::Report;
-use crate::report::counting::report_of;
+use crate::report::counting::{counts_in, report_of};
 use crate::threads::{Context, Ended};
 use ob_history::Recorded;
 use ob_shared::{Done, Named, SharedBuffer};
@@ -19,6 +19,8 @@ pub fn into_report<L: Named>(context: Context<L>, ended: Ended<L>) -> Result<Rep
     requires words { ended.lane.words ≡ context.words }
     requires whole { context.words.grant.room ≤ ended.lane.lane.room }
     requires no_bit { context.words.grant.bits ≡ 0 }
+    requires numbered { AreNumbered context.writers ended.dones.items ended.done }
+    requires counted { AreCounted context.writers ended.dones.items ended.counts }
     ensures fault { IfErr result (ComesOfWork 0) }
     ensures ended { IfOk result
         (TellsEnd L.opened context.words.grant.marks context.writers (ended.dones.items ++ ended.done ∷ [])) }
@@ -29,7 +31,14 @@ pub fn into_report<L: Named>(context: Context<L>, ended: Ended<L>) -> Result<Rep
         writers,
         ..
     } = context;
-    let Ended { lane, dones, done } = ended;
+    let Ended {
+        lane,
+        dones,
+        done,
+        counts,
+    } = ended;
+    let mut counts = counts;
+    counts.add_all(&counts_in(&done.receipts, writers));
     let recorded = match finished(shared, dones, done) {
         Ok(recorded) => recorded,
         Err(fault) => {
@@ -37,7 +46,7 @@ pub fn into_report<L: Named>(context: Context<L>, ended: Ended<L>) -> Result<Rep
         }
     };
     match lane.finish(words) {
-        Ok(hand) => Ok(report_of(recorded, writers, hand)),
+        Ok(hand) => Ok(report_of(recorded, counts, writers, hand)),
         // the lane is back with all the room of the words, and owes nothing
         Err(_) => unreachable!(),
     }

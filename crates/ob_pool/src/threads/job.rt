@@ -2,12 +2,14 @@
 
 ghost use Rattle.std.specs.Prelude.{◌≡◌, ◌+◌, ◌<◌, ◌≤◌, IfOk, IfErr, vec_capacity, vec_len};
 ghost use Rattle.ob_pool.specs.Drive.{ComesOfWork, charge_for};
+ghost use Rattle.ob_pool.specs.Inside.{AreTrueIfFit, counts_in};
 ghost use Rattle.ob_pool.specs.Threads.{HasRead, IsBack, IsNumbered, IsOneCall, IsRoomy, asked, done_by};
 
 use crate::fault::DriveFault;
 use crate::gate::{Gate, Stuck};
 use crate::plan::Plan;
 use crate::planning::charge_for;
+use crate::report::{Counts, counts_in};
 use crate::threads::context::Context;
 use crate::threads::heed::heed;
 use ob_history::Receipt;
@@ -34,11 +36,13 @@ impl<L: Named> Model for Job<L> {
     ghost view = { λ job. record { maker = job.share.maker; plan = job.plan; room = job.room } };
 }
 
-/// What a job comes to: its lane, with all its room, and what its writer hands in, or the fault that ended it.
+/// What a job comes to: its lane, with all its room, and what its writer hands in, with the counts of its receipts, or the
+/// fault that ended it.
 #[derive(Drop)]
 pub struct JobEnd<L: Named> {
     pub lane: Lane,
     pub done: Result<Done<L>, DriveFault>,
+    pub counts: Counts,
 }
 
 /// What a writer has at work: its share, and the receipts of its calls, with a place for each that is still to come.
@@ -79,6 +83,8 @@ impl<L: Named> Job<L> {
         requires room { self.room ≤ lane.lane.room }
         ensures lane { IsBack lane result.lane }
         ensures done { IfOk result.done (λ done. done_by done ≡ asked self) }
+        ensures counted { IfOk result.done (λ done.
+            AreTrueIfFit (counts_in context.now.writers done.receipts) result.counts) }
         ensures fault { IfErr result.done (ComesOfWork context.now.writers) }
     {
         let Job {
@@ -92,6 +98,7 @@ impl<L: Named> Job<L> {
             return JobEnd {
                 lane,
                 done: Err(DriveFault::NoMemory),
+                counts: Counts::zero(),
             };
         }
         let writer = share.caller();
@@ -106,6 +113,7 @@ impl<L: Named> Job<L> {
                 return JobEnd {
                     lane,
                     done: Err(DriveFault::Stuck { writer }),
+                    counts: Counts::zero(),
                 };
             }
             let begin = Step {
@@ -124,12 +132,15 @@ impl<L: Named> Job<L> {
                     return JobEnd {
                         lane,
                         done: Err(fault),
+                        counts: Counts::zero(),
                     };
                 }
             }
             gate.after(rt, writer, step);
         }
         let SoFar { share, receipts } = so_far;
+        // here, where they are still near, and beside the transport
+        let counts = counts_in(&receipts, context.writers);
         let done = Done {
             share,
             receipts,
@@ -139,6 +150,7 @@ impl<L: Named> Job<L> {
         JobEnd {
             lane,
             done: Ok(done),
+            counts,
         }
     }
 }

@@ -3,10 +3,12 @@
 ghost use Rattle.std.specs.Prelude.{◌≡◌, ◌+◌, ◌<◌, ◌≤◌, ◌^◌, ◌++◌, ℕ, IfErr, IfOk, IsOkAnd, vec_len};
 ghost use Rattle.std.specs.Thread.{IsSync};
 ghost use Rattle.ob_pool.specs.Drive.{ComesOfWork};
+ghost use Rattle.ob_pool.specs.Inside.{AreCounted};
 ghost use Rattle.ob_pool.specs.Threads.{AreDone, JobsHaveEnded, MayBegin, room_for};
 
 use crate::fault::DriveFault;
 use crate::gate::Gate;
+use crate::report::Counts;
 use crate::threads::context::Context;
 use crate::threads::job::{Job, JobEnd};
 use ob_lanes::Lane;
@@ -22,11 +24,13 @@ pub struct Writers<L: Named> {
     pub jobs: Vec<Job<L>>,
 }
 
-/// What writers come to: their lane, with all its room, and what they hand in, or the fault of the first of them.
+/// What writers come to: their lane, with all its room, and what they hand in, with the counts of their receipts, or the
+/// fault of the first of them.
 #[derive(Drop)]
 pub struct WritersEnd<L: Named> {
     pub lane: Lane,
     pub dones: Result<Vec<Done<L>>, DriveFault>,
+    pub counts: Counts,
 }
 
 /// Lets writers work, each in a thread of its own if one can be made. The list is halved down to one writer, with
@@ -40,7 +44,7 @@ pub fn run_all<L: Named + Send + Sync, R: Threads + Wait + Clock + Sync, G: Gate
 ) -> WritersEnd<L>
     requires { MayBegin context.now.words context.now.estimate context.now.task context.now.writers
         writers.lane writers.jobs.items }
-    ensures { JobsHaveEnded context.now.writers writers.jobs.items writers.lane result.lane result.dones }
+    ensures { JobsHaveEnded context.now.writers writers.jobs.items writers.lane result.lane result.dones result.counts }
 {
     if writers.jobs.len() < 2 {
         return one_alone(rt, gate, context, writers);
@@ -50,6 +54,7 @@ pub fn run_all<L: Named + Send + Sync, R: Threads + Wait + Clock + Sync, G: Gate
         return WritersEnd {
             lane,
             dones: Err(DriveFault::NoMemory),
+            counts: Counts::zero(),
         };
     };
     // A room is a word of 32 bits.
@@ -87,24 +92,30 @@ fn both_halves<L: Named + Send + Sync, R: Threads + Wait + Clock + Sync, G: Gate
     ensures words { result.lane.words ≡ front.lane.words }
     ensures room { result.lane.lane.room ≡ front.lane.lane.room + back.lane.lane.room }
     ensures done { IfOk result.dones (λ dones. AreDone (front.jobs.items ++ back.jobs.items) dones.items) }
+    ensures counted { IfOk result.dones (λ dones. AreCounted context.now.writers dones.items result.counts) }
     ensures fault { IfErr result.dones (ComesOfWork context.now.writers) }
 {
     let first = move || -> WritersEnd<L>
         requires row { IsSync R.row }
         requires ready { MayBegin context.now.words context.now.estimate context.now.task context.now.writers
             front.lane front.jobs.items }
-        ensures { JobsHaveEnded context.entry.now.writers front.jobs.items front.lane result.lane result.dones }
+        ensures { JobsHaveEnded context.entry.now.writers front.jobs.items front.lane result.lane result.dones
+            result.counts }
     { run_all(rt, gate, context, front) };
     let second = move || -> WritersEnd<L>
         requires row { IsSync R.row }
         requires ready { MayBegin context.now.words context.now.estimate context.now.task context.now.writers
             back.lane back.jobs.items }
-        ensures { JobsHaveEnded context.entry.now.writers back.jobs.items back.lane result.lane result.dones }
+        ensures { JobsHaveEnded context.entry.now.writers back.jobs.items back.lane result.lane result.dones
+            result.counts }
     { run_all(rt, gate, context, back) };
     let (ended, more) = join(rt, first, second);
+    let mut counts = ended.counts;
+    counts.add_all(&more.counts);
     WritersEnd {
         lane: ended.lane.join(&context.words, more.lane),
         dones: both_handed(ended.dones, more.dones),
+        counts,
     }
 }
 
@@ -136,7 +147,7 @@ fn one_alone<L: Named, R: Wait + Clock, G: Gate>(
     requires few { vec_len writers.jobs < 2 }
     requires ready { MayBegin context.now.words context.now.estimate context.now.task context.now.writers
         writers.lane writers.jobs.items }
-    ensures { JobsHaveEnded context.now.writers writers.jobs.items writers.lane result.lane result.dones }
+    ensures { JobsHaveEnded context.now.writers writers.jobs.items writers.lane result.lane result.dones result.counts }
 {
     let Writers { lane, mut jobs } = writers;
     let last = jobs.pop();
@@ -144,6 +155,7 @@ fn one_alone<L: Named, R: Wait + Clock, G: Gate>(
         return WritersEnd {
             lane,
             dones: Ok(Vec::new(context.alloc)),
+            counts: Counts::zero(),
         };
     };
     let mut dones = Vec::new(context.alloc);
@@ -151,20 +163,23 @@ fn one_alone<L: Named, R: Wait + Clock, G: Gate>(
         return WritersEnd {
             lane,
             dones: Err(DriveFault::NoMemory),
+            counts: Counts::zero(),
         };
     }
-    let JobEnd { lane, done } = job.run(rt, gate, context, lane);
+    let JobEnd { lane, done, counts } = job.run(rt, gate, context, lane);
     match done {
         Ok(done) => {
             dones.push_reserved(done);
             WritersEnd {
                 lane,
                 dones: Ok(dones),
+                counts,
             }
         }
         Err(fault) => WritersEnd {
             lane,
             dones: Err(fault),
+            counts: Counts::zero(),
         },
     }
 }

@@ -14,7 +14,7 @@ use Rattle.ob_pool.specs.Inside.{HaveHandedIn}
 use Rattle.ob_pool.specs.Report.{IsCounted, AreAtRest}
 use Rattle.ob_pool.specs.Threads.{IsNumbered}
 use Rattle.ob_pool.specs.declared.report.Report.{Report}
-use Rattle.ob_pool.proofs.Histories.Ending.{HaveEnded, all_carried, callers_told, failings_told}
+use Rattle.ob_pool.proofs.Histories.Ending.{HaveEnded, all_carried, callers_told, failings_told, numbered_from}
 use Rattle.ob_pool.proofs.Jobs.Faults.{comes_of_more}
 use Rattle.ob_pool.proofs.Plans.PlannedSteps.{no_failing_step, steps_are_planned}
 use Rattle.ob_pool.proofs.Histories.Quiet.{others_send_nothing}
@@ -43,6 +43,18 @@ run-requires-clause-ready g c = λ κs lives.
           (all_numbered c.in_ok-opened.opened.jobs.items c.args.ready.checked.plans c.in_ok-opened.ensures.asked);
       room = search rules;
       whole = search rules;
+    }
+
+pub into_report-requires-clause-numbered : goal.into_report-requires-clause-numbered
+into_report-requires-clause-numbered g c =
+    let count : c.len-writers.result ≡ length c.args.ready.checked.plans = search rules in
+    let numbered = numbered_from c.in-Ok-run.ended.dones.items 0 c.args.ready.checked.plans
+    (c.in-Ok-run.ensures.done ∙ c.in_ok-opened.ensures.asked) in
+    record {
+      callers = numbered.0;
+      count = numbered.1 ∙ sym count;
+      last = c.in-Ok-run.ensures.transported.caller
+          ∙ ap (λ (its : ShareValue). its.maker.caller) c.in_ok-opened.ensures.share ∙ sym count;
     }
 
 pub returns-in-Err-clause-planned : goal.returns-in-Err-clause-planned

@@ -1,43 +1,38 @@
-use Rattle.std.proofs.Common.{◌≡◌, ◌+◌, ◌≤◌, List, ap, ◌∙◌, subst, sym, arith}
+use Rattle.std.proofs.Common.{◌≡◌, ◌+◌, ◌≤◌, ap, arith}
 use Rattle.ob_history.specs.History.{most_records}
-use Rattle.ob_history.specs.declared.record.Record.{Record}
-use Rattle.ob_pool.specs.Inside.{DoFit, counts_of}
+use Rattle.ob_pool.specs.Inside.{counts_of}
 use Rattle.ob_pool.specs.Report.{left_of}
 use Rattle.ob_pool.specs.declared.report.counts.Counts.{Counts}
 use Rattle.ob_pool.proofs.Histories.AcceptedCounts.{taken_fits_word}
 use Rattle.ob_pool.proofs.Histories.CountedRecords.{counts_fit_word}
 use Rattle.ob_pool.proofs.Histories.Settled.{Tally, tallied}
 use Rattle.ob_pool.proofs.report.counting.report_of.Goals as goal
-use Rattle.ob_pool.proofs.report.counting.report_of.Goals.{After-counts_in-counts}
+use Rattle.ob_pool.proofs.report.counting.report_of.Goals.{After-records-records}
 
 -- the numbers that are settled, once the records are at hand
-tally : (c : goal.After-records) → Tally c.args.recorded.records
+tally : (c : goal.After-records-records) → Tally c.args.recorded.records
 tally c = tallied c.args.recorded.settings c.args.recorded c.a_history_settles_each_promise_once.ensures.once
     c.a_history_tells_each_settled_promise.ensures.told c.a_history_tells_each_settled_promise.ensures.unknown
-    c.records.ensures.legal c.records.ensures.bounded
+    c.records-records.ensures.legal c.records-records.ensures.bounded
 
-pub counts_in-counts-requires : goal.counts_in-counts-requires
-counts_in-counts-requires c =
+-- the numbers are those of the history, which fit
+counted : (c : After-records-records) → c.args.counts ≡ counts_of c.args.writers c.args.recorded.records
+counted c =
     let recorded = c.args.recorded in
-    let bounded = c.records.ensures.bounded in
+    let bounded = c.records-records.ensures.bounded in
     let taken = taken_fits_word recorded.records
     (λ one n. c.a_history_keeps_to_the_limits.ensures.removal recorded.settings recorded.records one n
-    c.records.ensures.legal)
+    c.records-records.ensures.legal)
     (omega (arith, bounded.places, bounded.limit)) in
-    subst (λ (records : List Record). DoFit (counts_of c.args.writers records)) (sym c.records.ensures.value)
-    (counts_fit_word c.args.writers recorded bounded taken (tally c))
-
--- the numbers are those of the history
-counted : (c : After-counts_in-counts) → c.counts_in-counts.result ≡ counts_of c.args.writers c.args.recorded.records
-counted c = c.counts_in-counts.ensures ∙ ap (counts_of c.args.writers) c.records.ensures.value
+    c.requires (counts_fit_word c.args.writers recorded bounded taken (tally c))
 
 -- the writes are what is left and what was settled
-all_told : (c : After-counts_in-counts) →
-    let counts = c.counts_in-counts.result in
+all_told : (c : After-records-records) →
+    let counts = c.args.counts in
     (left_of c.args.recorded.records + (counts.success + counts.failed + counts.cancelled) ≡ counts.writes)
     × (counts.writes ≤ most_records)
 all_told c =
-    let all = tally c.before in
+    let all = tally c in
     let writes = ap (λ (counts : Counts). counts.writes) (counted c) in
     let success = ap (λ (counts : Counts). counts.success) (counted c) in
     let failed = ap (λ (counts : Counts). counts.failed) (counted c) in

@@ -3,6 +3,7 @@ use Rattle.std.specs.Prelude.{vec_len}
 use Rattle.std.proofs.lemmas.Result.{IfOk-weaker}
 use Rattle.ob_lanes.specs.RunningLane.{WordsValue}
 use Rattle.ob_pool.specs.Threads.{IsNumbered, IsRoomy, room_for}
+use Rattle.ob_pool.proofs.Histories.TrueCounts.{both_counted}
 use Rattle.ob_pool.proofs.Jobs.Halves.{back_some, both_handed_done, front_some, half_within, parts_alike, parts_done}
 use Rattle.ob_pool.proofs.Jobs.Halves.{rooms_of_parts, rooms_within, splits}
 use Rattle.ob_pool.proofs.threads.jobs.+run.Goals as goal
@@ -76,6 +77,7 @@ run_all-returns g t c = record {
       IfOk-weaker c.both_halves.result.dones _ _
       (λ dones done. parts_done (c.len-2.result / 2) c.args.writers.jobs.items c.split_off.new.self.items c.in-Ok.others.items dones.items
       c.in-Ok.ensures.items c.in-Ok.ensures.tail done) c.both_halves.ensures.done;
+  counted = c.both_halves.ensures.counted;
   fault = search rules;
 }
 
@@ -85,6 +87,13 @@ both_halves-returns-clause-done g t c =
     (λ all is. both_handed_done c.join-ended.result.0.dones c.join-ended.result.1.dones (λ dones. dones.items)
     c.args.front.jobs.items c.args.back.jobs.items all.items is c.join-ended.ensures.first.done
     c.join-ended.ensures.second.done) c.both_handed.ensures.first
+
+pub both_halves-returns-clause-counted : goal.both_halves-returns-clause-counted
+both_halves-returns-clause-counted g t c =
+    IfOk-weaker c.both_handed.result _ _
+    (λ all is. both_counted c.args.context.now.writers c.join-ended.result.0.dones c.join-ended.result.1.dones
+    (λ dones. dones.items) all.items c.join-ended.result.0.counts c.join-ended.result.1.counts c.add_all.new.self is
+    c.join-ended.ensures.first.counted c.join-ended.ensures.second.counted c.add_all.ensures) c.both_handed.ensures.first
 
 pub both_halves-returns-clause-fault : goal.both_halves-returns-clause-fault
 both_halves-returns-clause-fault g t c =

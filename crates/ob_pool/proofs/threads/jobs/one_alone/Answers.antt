@@ -1,6 +1,8 @@
 use Rattle.std.proofs.Common.{◌≡◌, ◌∙◌}
 use Rattle.std.proofs.lemmas.Result.{IfOk-at_ok}
+use Rattle.ob_pool.specs.Inside.{AreTrueIfFit, counts_in}
 use Rattle.ob_pool.specs.Threads.{IsNumbered, IsRoomy, asked, done_by}
+use Rattle.ob_pool.proofs.Histories.TrueCounts.{one_counted}
 use Rattle.ob_pool.proofs.Jobs.Alone.{last_holds, last_room, one_done}
 use Rattle.ob_pool.proofs.threads.jobs.one_alone.Goals as goal
 
@@ -26,5 +28,9 @@ returns-in-Ok g c = record {
       c.push_reserved.new.self.items c.in-Ok.done c.requires.few c.in-Some.ensures.items
       (c.reserve.ensures.items ∙ c.new-dones.ensures.items) c.push_reserved.ensures.items
       (IfOk-at_ok (λ done. done_by done ≡ asked c.in-Some.job) c.in-Ok.is c.run-lane.ensures.done);
+  counted = one_counted c.args.context.now.writers c.reserve.new.self.items c.push_reserved.new.self.items c.in-Ok.done
+      c.run-lane.result.counts (c.reserve.ensures.items ∙ c.new-dones.ensures.items) c.push_reserved.ensures.items
+      (IfOk-at_ok (λ done. AreTrueIfFit (counts_in c.args.context.now.writers done.receipts) c.run-lane.result.counts)
+      c.in-Ok.is c.run-lane.ensures.counted);
   fault = tt;
 }
