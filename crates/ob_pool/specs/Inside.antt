@@ -151,6 +151,11 @@ receipts_in handed = flat_map (λ one. one.receipts) handed
 abbrev pub AreCounted : ℕ → List Handed → Counts → Type 0
 AreCounted writers handed counts = AreTrueIfFit (counts_in writers (receipts_in handed)) counts
 
+-- who had counted some receipts has then counted these, if their counts fit
+abbrev pub KeepCounting : ℕ → List Receipt → Counts → List Receipt → Counts → Type 0
+KeepCounting writers receipts counts after told =
+    AreTrueIfFit (counts_in writers receipts) counts → AreTrueIfFit (counts_in writers after) told
+
 -- callers that hand in are *n* writers, who are numbered from 0 on, and the one behind them
 pub record AreNumbered (writers : ℕ) (dones : List Handed) (done : Handed) : Type 0 where
   pub callers : map (λ one. one.maker.caller) dones ≡ range_with_len 0 (length dones)

@@ -1,15 +1,16 @@
 //! The job of one writer, who carries its plan out, command by command.
 
-ghost use Rattle.std.specs.Prelude.{◌≡◌, ◌+◌, ◌<◌, ◌≤◌, IfOk, IfErr, vec_capacity, vec_len};
+ghost use Rattle.std.specs.Prelude.{◌≡◌, ◌+◌, ◌<◌, ◌≤◌, ◌++◌, List, [], ◌∷◌, IfOk, IfErr, vec_capacity, vec_len};
+ghost use Rattle.ob_history.specs.declared.receipt.Receipt.{Receipt};
 ghost use Rattle.ob_pool.specs.Drive.{ComesOfWork, charge_for};
-ghost use Rattle.ob_pool.specs.Inside.{AreTrueIfFit, counts_in};
+ghost use Rattle.ob_pool.specs.Inside.{AreTrueIfFit, KeepCounting, counts_in};
 ghost use Rattle.ob_pool.specs.Threads.{HasRead, IsBack, IsNumbered, IsOneCall, IsRoomy, asked, done_by};
 
 use crate::fault::DriveFault;
 use crate::gate::{Gate, Stuck};
 use crate::plan::Plan;
 use crate::planning::charge_for;
-use crate::report::{Counts, counts_in};
+use crate::report::Counts;
 use crate::threads::context::Context;
 use crate::threads::heed::heed;
 use ob_history::Receipt;
@@ -103,6 +104,7 @@ impl<L: Named> Job<L> {
         }
         let writer = share.caller();
         let mut lane = lane;
+        let mut counts = Counts::zero();
         let mut so_far = SoFar { share, receipts };
         let mut rest = plan.begin();
         'steps: for step in 0..steps {
@@ -123,7 +125,7 @@ impl<L: Named> Job<L> {
             let StepEnd {
                 lane: same,
                 so_far: end,
-            } = one_step(rt, gate, context, begin, command);
+            } = one_step(rt, gate, context, begin, command, &mut counts);
             rest.advance();
             lane = same;
             match end {
@@ -139,8 +141,6 @@ impl<L: Named> Job<L> {
             gate.after(rt, writer, step);
         }
         let SoFar { share, receipts } = so_far;
-        // here, where they are still near, and beside the transport
-        let counts = counts_in(&receipts, context.writers);
         let done = Done {
             share,
             receipts,
@@ -156,7 +156,7 @@ impl<L: Named> Job<L> {
 }
 
 /// One step of a writer that has read: one call of the shared buffer, of a write with its charge in the lane meanwhile.
-/// The receipt goes behind the others.
+/// The receipt goes behind the others, and is counted.
 // in one piece with the loop, so that what a step begins with and comes to is not moved through memory
 #[inline(always)]
 fn one_step<L: Named, R: Wait + Clock, G: Gate>(
@@ -165,6 +165,7 @@ fn one_step<L: Named, R: Wait + Clock, G: Gate>(
     context: &Context<L>,
     begin: Step<L>,
     command: &Command,
+    counts: &mut Counts,
 ) -> StepEnd<L>
     requires words { begin.lane.words ≡ context.now.words }
     requires room { charge_for context.now.estimate context.now.task command.now ≤ begin.lane.lane.room }
@@ -176,13 +177,15 @@ fn one_step<L: Named, R: Wait + Clock, G: Gate>(
         begin.so_far.receipts.items after.receipts.items after.share) }
     ensures count { IfOk result.so_far (λ after. vec_len after.receipts ≡ vec_len begin.so_far.receipts + 1) }
     ensures places { IfOk result.so_far (λ after. vec_capacity after.receipts ≡ vec_capacity begin.so_far.receipts) }
+    ensures counted { IfOk result.so_far (λ after. KeepCounting context.now.writers
+        begin.so_far.receipts.items counts.old after.receipts.items counts.new) }
     ensures fault { IfErr result.so_far (ComesOfWork context.now.writers) }
 {
     let Step { lane, so_far } = begin;
     if !matches!(command, Command::Write(_)) {
         return StepEnd {
             lane,
-            so_far: one_call(rt, context, so_far, command),
+            so_far: one_call(rt, context, so_far, command, counts),
         };
     }
     let writer = so_far.share.caller();
@@ -195,20 +198,21 @@ fn one_step<L: Named, R: Wait + Clock, G: Gate>(
     };
     let total = charged.total(&context.words);
     let so_far = match gate.during(rt, writer, step, total) {
-        Ok(()) => one_call(rt, context, so_far, command),
+        Ok(()) => one_call(rt, context, so_far, command, counts),
         Err(Stuck) => { Err(DriveFault::Stuck { writer }) }
     };
     let (lane, _change) = charged.discharge(rt, &context.words);
     StepEnd { lane, so_far }
 }
 
-/// One call of the shared buffer, from a desk of its own. The receipt goes behind the others.
+/// One call of the shared buffer, from a desk of its own. The receipt goes behind the others, and is counted.
 #[inline(always)]
 fn one_call<L: Named, R: Wait>(
     rt: &R,
     context: &Context<L>,
     so_far: SoFar<L>,
     command: &Command,
+    counts: &mut Counts,
 ) -> Result<SoFar<L>, DriveFault>
     requires numbered { so_far.share.maker.caller < context.now.writers }
     requires place { vec_len so_far.receipts < vec_capacity so_far.receipts }
@@ -216,6 +220,8 @@ fn one_call<L: Named, R: Wait>(
         IsOneCall so_far.share command.now so_far.receipts.items after.receipts.items after.share) }
     ensures count { IfOk result (λ after. vec_len after.receipts ≡ vec_len so_far.receipts + 1) }
     ensures places { IfOk result (λ after. vec_capacity after.receipts ≡ vec_capacity so_far.receipts) }
+    ensures counted { IfOk result (λ after. KeepCounting context.now.writers
+        so_far.receipts.items counts.old after.receipts.items counts.new) }
     ensures fault { IfErr result (ComesOfWork context.now.writers) }
 {
     let SoFar {
@@ -230,8 +236,23 @@ fn one_call<L: Named, R: Wait>(
     let answer = desk.keep(command, &mut receipts);
     let share = desk.leave();
     match answer {
-        Ok(()) => Ok(SoFar { share, receipts }),
+        Ok(()) => {
+            count_last(&receipts, context.writers, counts);
+            Ok(SoFar { share, receipts })
+        }
         Err(Refusal::NoMemory) => { Err(DriveFault::NoMemory) }
         Err(refusal) => { Err(DriveFault::Refused { writer, refusal }) }
+    }
+}
+
+/// Counts the last of receipts, while it is still near.
+#[inline(always)]
+fn count_last(receipts: &[Receipt], writers: u32, counts: &mut Counts)
+    ensures { (before : List Receipt) (one : Receipt) → receipts.now ≡ before ++ one ∷ []
+        → KeepCounting writers before counts.old receipts.now counts.new }
+{
+    match receipts.last() {
+        Some(last) => counts.add(last, writers),
+        None => {}
     }
 }

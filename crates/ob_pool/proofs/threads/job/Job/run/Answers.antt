@@ -41,4 +41,5 @@ steps-preserved g c =
       left = omega (arith, kept.left, ap length begin);
       places = places_rest (vec_len c.steps.so_far.receipts) (vec_len receipts) (vec_capacity c.steps.so_far.receipts)
           (vec_capacity receipts) command plan rest kept.places begin count places;
+      counted = IfOk-at_ok _ c.in-Ok.is step.counted kept.counted;
     }
