@@ -58,52 +58,51 @@ impl Caller {
             estimate,
             budget: None,
         };
-        Caller::begin(alloc, opened, None)
+        let Ok((shared, seat)) = Shared::new(alloc, opened, None) else {
+            return Err(Refusal::NoMemory);
+        };
+        let shared = Arc::new(alloc, shared)?;
+        Ok(Caller { shared, seat })
     }
 
-    /// The same, under this cover.
+    /// The same, under this cover, which comes back if there is no memory.
+    // what lies in a table does not come back as it was, so the memory that the table goes into is asked for before it
     pub fn open_within(
         alloc: Global,
         marks: WaterMark,
         estimate: Estimate,
         cover: Cover,
-    ) -> Result<Caller, Refusal>
+    ) -> Result<Caller, Cover>
         requires overhead { estimate.overhead ≤ greatest_overhead }
         requires unknown { estimate.unknown ≤ greatest_unknown }
         ensures free { IfOk result IsFree }
         ensures first { IfOk result (λ caller.
             IsFirst (record { marks = marks; estimate = estimate }) (caller_handle caller)) }
         ensures budget { IfOk result (λ caller. (caller_handle caller).budget ≡ Some cover.seat.budget) }
-        ensures no_memory { IsOkUnless result Refusal.NoMemory }
+        ensures back { IfErr result (λ back. back ≡ cover) }
     {
         let Ok(budget) = Arc::try_clone(cover.budget()) else {
-            return Err(Refusal::NoMemory);
+            return Err(cover);
         };
-        let cover = Box::new(alloc, cover)?;
+        let Ok(
+            Caller {
+                mut shared,
+                seat: _,
+            },
+        ) = Caller::open(alloc, marks, estimate)
+        else {
+            return Err(cover);
+        };
+        let Some(place) = Arc::get_mut(&mut shared) else {
+            return Err(cover);
+        };
         let opened = Opened {
             marks,
             estimate,
             budget: Some(budget),
         };
-        Caller::begin(alloc, opened, Some(cover))
-    }
-
-    fn begin(
-        alloc: Global,
-        opened: Opened,
-        cover: Option<Box<Cover, Global>>,
-    ) -> Result<Caller, Refusal>
-        requires overhead { opened.estimate.overhead ≤ greatest_overhead }
-        requires unknown { opened.estimate.unknown ≤ greatest_unknown }
-        requires budget { budget_of (option_map (λ held. box_value held) cover) ≡ within_of opened }
-        ensures free { IfOk result IsFree }
-        ensures first { IfOk result (λ caller.
-            IsFirst (record { marks = opened.marks; estimate = opened.estimate }) (caller_handle caller)) }
-        ensures budget { IfOk result (λ caller. (caller_handle caller).budget ≡ within_of opened) }
-        ensures no_memory { IsOkUnless result Refusal.NoMemory }
-    {
-        let (shared, seat) = Shared::new(alloc, opened, cover)?;
-        let shared = Arc::new(alloc, shared)?;
+        let (covered, seat) = Shared::covered(alloc, opened, cover)?;
+        *place = covered;
         Ok(Caller { shared, seat })
     }
 

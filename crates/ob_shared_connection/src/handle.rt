@@ -17,6 +17,7 @@ use crate::ended::Ended;
 use crate::glance::Glance;
 use crate::guard::Guard;
 use crate::moment::Moment;
+use crate::not_opened::NotOpened;
 use crate::patience::Patience;
 use crate::transport::Transport;
 use ob_covered::Cover;
@@ -82,7 +83,7 @@ impl Handle {
 
     /// The first handle of a connection with nothing written, which is within the budget of this cover: at each moment
     /// what is pending of it is at most what the seat of the cover holds. The numbers and the refusal are those of
-    /// `open`; a cover that was not used is let go, with its seat.
+    /// `open`; the cover comes back then as it was, with all that its seat holds.
     ///
     /// `act_within` raises the seat for what it writes. Any other call leaves the seat as it is, since it has nowhere to
     /// tell a turn of pressure, and a write that the seat does not hold is refused as `Uncovered`. `Ended` gives the
@@ -92,15 +93,21 @@ impl Handle {
         marks: WaterMark,
         estimate: Estimate,
         cover: Cover,
-    ) -> Result<Handle, Refusal>
+    ) -> Result<Handle, NotOpened>
         requires overhead { estimate.overhead ≤ greatest_overhead }
         requires unknown { estimate.unknown ≤ greatest_unknown }
         ensures first { IfOk result (λ handle. IsFirst (record { marks = marks; estimate = estimate }) handle) }
         ensures budget { IfOk result (λ handle. handle.budget ≡ Some cover.seat.budget) }
-        ensures no_memory { IsOkUnless result Refusal.NoMemory }
+        ensures no_memory { IfErr result (λ not. not.why ≡ Refusal.NoMemory) }
+        ensures back { IfErr result (λ not. not.cover ≡ cover) }
     {
-        let caller = Caller::open_within(alloc, marks, estimate, cover)?;
-        Ok(Handle::new(caller))
+        match Caller::open_within(alloc, marks, estimate, cover) {
+            Ok(caller) => Ok(Handle::new(caller)),
+            Err(cover) => Err(NotOpened {
+                why: Refusal::NoMemory,
+                cover,
+            }),
+        }
     }
 
     /// A handle of a caller that does not have the lock.

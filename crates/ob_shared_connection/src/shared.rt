@@ -1,4 +1,4 @@
-ghost use Rattle.std.specs.Prelude.{◌≡◌, ◌≤◌, ℕ, false, true, [], IfOk, OnOk, IsOkUnless, option_map};
+ghost use Rattle.std.specs.Prelude.{◌≡◌, ◌≤◌, ℕ, false, true, [], IfErr, IfOk, OnOk, Some, option_map};
 ghost use Rattle.std.specs.Box.{box_value};
 
 use crate::bell::{Bell, Work, Writers};
@@ -21,7 +21,6 @@ use crate::wakes::Wakes;
 use atomic_table::{Refused, Table};
 use ob_connection::Connection;
 use ob_covered::Cover;
-use ob_types::Refusal;
 use std::alloc::Global;
 use std::marker::Brand;
 use std::sync::Wait;
@@ -66,27 +65,52 @@ impl Shared {
     ghost use Rattle.ob_shared_connection.specs.Steps.{HasLock, Hushes, IsEndOf, IsNamed, IsNow, Locks, MayLeave};
     ghost use Rattle.ob_shared_connection.specs.Steps.{Reads, Rests};
 
-    /// A table with a connection that has nothing written, and its first seat.
+    /// A table with a connection that has nothing written, and its first seat; the cover comes back if there is no memory.
     pub fn new(
         alloc: Global,
         opened: Opened,
         cover: Option<Box<Cover, Global>>,
-    ) -> Result<(Shared, Seat), Refusal>
+    ) -> Result<(Shared, Seat), Option<Box<Cover, Global>>>
         requires overhead { opened.estimate.overhead ≤ greatest_overhead }
         requires unknown { opened.estimate.unknown ≤ greatest_unknown }
         requires budget { budget_of (option_map (λ held. box_value held) cover) ≡ within_of opened }
         ensures seat { IfOk result (λ made. IsSeatOf made.0 made.1) }
         ensures me { IfOk result (λ made. made.1.me ≡ (first_view opened, [])) }
-        ensures no_memory { IsOkUnless result Refusal.NoMemory }
+        ensures back { IfErr result (λ back. back ≡ cover) }
     {
         let connection = Connection::new(alloc, opened.marks, opened.estimate);
         let _look = connection.look();
         let mut slots = Vec::new(alloc);
-        slots.push(Carried { connection, cover })?;
+        if let Err(refused) = slots.push(Carried { connection, cover }) {
+            return Err(refused.value.cover);
+        }
         let words: [u64; WORDS] = [FREE, 1, 0, 0, 0, 0];
         match Table::new(alloc, &words, slots, &opened) {
             Ok((table, seat)) => Ok((Shared { table }, seat)),
-            Err(Refused { slots: _ }) => Err(Refusal::NoMemory),
+            Err(Refused { mut slots }) => match slots.pop() {
+                Some(carried) => Err(carried.cover),
+                None => Err(None),
+            },
+        }
+    }
+
+    /// The same within a budget, under this cover.
+    pub fn covered(alloc: Global, opened: Opened, cover: Cover) -> Result<(Shared, Seat), Cover>
+        requires overhead { opened.estimate.overhead ≤ greatest_overhead }
+        requires unknown { opened.estimate.unknown ≤ greatest_unknown }
+        requires budget { Some cover.seat.budget ≡ within_of opened }
+        ensures seat { IfOk result (λ made. IsSeatOf made.0 made.1) }
+        ensures me { IfOk result (λ made. made.1.me ≡ (first_view opened, [])) }
+        ensures back { IfErr result (λ back. back ≡ cover) }
+    {
+        let cover = match Box::new(alloc, cover) {
+            Ok(cover) => cover,
+            Err(refused) => return Err(refused.value),
+        };
+        match Shared::new(alloc, opened, Some(cover)) {
+            Ok(made) => Ok(made),
+            Err(Some(cover)) => Err(Box::into_inner(cover)),
+            Err(None) => unreachable!(),
         }
     }
 

@@ -6,8 +6,10 @@ use ob_budget::{Bounds, Pressure, RaiseFault};
 use ob_covered::{Cover, Told};
 use ob_shared_connection::commands::{Remove, Write};
 use ob_shared_connection::writes::WriteAndFlush;
-use ob_shared_connection::{Ended, Handle, OverBudget, Transport, Wakes, WriteFault, looks};
-use ob_types::{Estimate, WaterMark};
+use ob_shared_connection::{
+    Ended, Handle, NotOpened, OverBudget, Transport, Wakes, WriteFault, looks,
+};
+use ob_types::{Estimate, Refusal, WaterMark};
 use std::alloc::Global;
 use std::process::Abort;
 use std::sync::Wait;
@@ -33,7 +35,10 @@ fn within(alloc: Global, cover: &mut Cover) -> Result<Handle, Fail>
         unknown: 8,
     };
     let cover = cover.split()?;
-    Ok(Handle::open_within(alloc, WaterMark::new(5000, 9000)?, estimate, cover)?)
+    match Handle::open_within(alloc, WaterMark::new(5000, 9000)?, estimate, cover) {
+        Ok(handle) => Ok(handle),
+        Err(NotOpened { why, cover: _ }) => Err(why.into()),
+    }
 }
 
 /// Writes a block, and says which turn of pressure that made, or why the budget refused it.
@@ -49,6 +54,29 @@ fn write<R: Wait + Abort>(rt: &R, handle: &mut Handle) -> Result<Option<Pressure
             Err(fault)
         }
     }
+}
+
+#[test]
+fn the_cover_comes_back_if_there_is_no_memory(rt: HostRuntime) -> Result<(), Fail> {
+    let mut cover = budget(rt.alloc(), 0)?;
+    let mut own = cover.split()?;
+    assert!(rt; own.take(300) == Ok(None));
+    let estimate = Estimate {
+        overhead: 96,
+        unknown: 8,
+    };
+    let opened = Handle::open_within(rt.alloc(), WaterMark::new(5000, 9000)?, estimate, own);
+    if let Err(
+        NotOpened {
+            why,
+            cover: mut back,
+        },
+    ) = opened
+    {
+        assert!(rt; why == Refusal::NoMemory && back.held() == 300);
+        assert!(rt; back.keep(0).is_none() && cover.look().total == 0);
+    }
+    Ok(())
 }
 
 #[test]

@@ -11,7 +11,7 @@ new-requires c =
     let connection = c.new-connection.result in
     let carried : Carried = record { connection = connection; cover = c.args.cover } in
     let slots : c.push.new.self.items ≡ carried ∷ [] =
-    c.in_ok-push.ensures.items ∙ ap (λ (before : List Carried). before ++ carried ∷ []) c.new-slots.ensures.items in
+    c.in_default.ensures.items ∙ ap (λ (before : List Carried). before ++ carried ∷ []) c.new-slots.ensures.items in
     subst (λ (slots : List Carried).
     Ruled (opening (0 ∷ 1 ∷ 0 ∷ 0 ∷ 0 ∷ 0 ∷ []) slots (first_view c.args.opened))) (sym slots)
     (at_first c.args.opened carried c.new-connection.ensures.settings c.new-connection.ensures.stands (record {
