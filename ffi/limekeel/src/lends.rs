@@ -73,9 +73,21 @@ impl Lends<'_> {
         if bytes.len() > LONGEST {
             return None;
         }
-        let mut made = Made::new(self, bytes.len()).ok()?;
-        made.add(bytes);
-        Some(made.write())
+        let Lends { mut archived, lent } = self;
+        lent.reserve(bytes.len()).ok()?;
+        let start = lent.made();
+        lent.add(bytes);
+        let copy = lent.made_from(start);
+        let (at, length) = (copy.as_ptr(), copy.len());
+        // SAFETY: the pointer and the length are those of one slice. The chunk is kept with the promise of the last message in it,
+        // and nobody changes these bytes: others are added behind them.
+        let told = unsafe { archived.write(at, length) };
+        if told.written.status == sys::OK {
+            lent.keep_made(told.written.id);
+        } else {
+            lent.take_back_refused(start);
+        }
+        Some(told)
     }
 
     /// Writes the bytes of an owner, and keeps it until the message is gone.

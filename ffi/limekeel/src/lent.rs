@@ -173,6 +173,13 @@ impl Lent {
         self.chunk.truncate(start);
     }
 
+    /// The same of a copy that was refused.
+    #[cold]
+    #[inline(never)]
+    pub(crate) fn take_back_refused(&mut self, start: usize) {
+        self.take_back(start);
+    }
+
     /// The bytes that were made last are of the message with this promise.
     #[inline]
     pub(crate) fn keep_made(&mut self, id: u64) {
