@@ -56,22 +56,30 @@ fn write<R: Wait + Abort>(rt: &R, handle: &mut Handle) -> Result<Option<Pressure
     }
 }
 
+/// What comes back of an opening under this cover, if there is no memory for it.
+fn not_opened(alloc: Global, marks: WaterMark, cover: Cover) -> Option<NotOpened> {
+    let estimate = Estimate {
+        overhead: 96,
+        unknown: 8,
+    };
+    match Handle::open_within(alloc, marks, estimate, cover) {
+        Ok(_handle) => None,
+        Err(refused) => Some(refused),
+    }
+}
+
 #[test]
 fn the_cover_comes_back_if_there_is_no_memory(rt: HostRuntime) -> Result<(), Fail> {
     let mut cover = budget(rt.alloc(), 0)?;
     let mut own = cover.split()?;
     assert!(rt; own.take(300) == Ok(None));
-    let estimate = Estimate {
-        overhead: 96,
-        unknown: 8,
-    };
-    let opened = Handle::open_within(rt.alloc(), WaterMark::new(5000, 9000)?, estimate, own);
-    if let Err(
+    let refused = not_opened(rt.alloc(), WaterMark::new(5000, 9000)?, own);
+    if let Some(
         NotOpened {
             why,
             cover: mut back,
         },
-    ) = opened
+    ) = refused
     {
         assert!(rt; why == Refusal::NoMemory && back.held() == 300);
         assert!(rt; back.keep(0).is_none() && cover.look().total == 0);
