@@ -21,8 +21,7 @@ use Rattle.ob_connection.specs.Sending.{Asks, Sends, bytes_in_front_after}
 use Rattle.ob_connection.specs.declared.connection.sending.SendFault.{SendFault}
 use Rattle.ob_connection.specs.declared.connection.sending.Sent.{Sent}
 use Rattle.ob_connection.specs.declared.connection.sending.SendFault.TheVariants.{Broken as IsBroken}
-use Rattle.ob_patterns.specs.Sending.{IsGivenUp, broken, most_bytes}
-use Rattle.ob_patterns.specs.Saying.{Says}
+use Rattle.ob_patterns.specs.Sending.{IsGivenUp, broken, most_bytes, Says}
 use Rattle.ob_patterns.specs.Urgent.{EndsCut, LeavesAtFault, LeavesCut, SaysOfBoth, SendsRest, cut_after, is_left}
 use Rattle.ob_patterns.specs.Urgent.{next_after_fault, next_by, next_of_cut, rest_after, rest_of}
 use Rattle.ob_patterns.specs.declared.next.Next.{Next}

@@ -14,7 +14,7 @@ use Rattle.ob_connection.specs.Connected.{Connected, StandsFor}
 use Rattle.ob_connection.specs.Obeying.{Obeys, flushed_reply, written_reply}
 use Rattle.ob_connection.specs.declared.replies.Flushed.{Flushed}
 use Rattle.ob_connection.specs.declared.replies.Written.{Written}
-use Rattle.ob_patterns.specs.Adding.{accepted, Adds, RefusesWrite, written_and_flushed}
+use Rattle.ob_patterns.specs.Writing.{accepted, Adds, RefusesWrite, written_and_flushed}
 
 -- what is answered by a reply is open
 open_if_answered : (closed : Bool) (other : Option Refusal) (reply said : Reply) →

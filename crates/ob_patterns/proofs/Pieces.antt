@@ -13,8 +13,7 @@ use Rattle.ob_connection.specs.Obeying.{Obeys, written_reply}
 use Rattle.ob_connection.specs.Calls.{with_more}
 use Rattle.ob_connection.specs.declared.refused.Refused.{Refused}
 use Rattle.ob_connection.specs.declared.replies.Written.{Written}
-use Rattle.ob_patterns.specs.Adding.{accepted, Adds, RefusesWrite}
-use Rattle.ob_patterns.specs.Chunking.{AreWanted, Stops, WritesGiven, last_answer, written}
+use Rattle.ob_patterns.specs.Writing.{accepted, Adds, RefusesWrite, AreWanted, Stops, WritesGiven, last_answer, written}
 use Rattle.ob_patterns.specs.declared.chunks.Progress.{Progress}
 
 -- what a source answers that gives these pieces

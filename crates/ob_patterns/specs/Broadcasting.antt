@@ -3,7 +3,7 @@ use Rattle.std.specs.Prelude.{◌≡◌, ℕ, List, Bool, true, false, Result, O
 use Rattle.ob_types.specs.declared.message.Message.TheVariants.{Block}
 use Rattle.ob_seq.specs.State.{writable_after}
 use Rattle.ob_connection.specs.Connected.{Connected, Gives}
-use Rattle.ob_patterns.specs.Adding.{Adds, RefusesWrite, written_and_flushed}
+use Rattle.ob_patterns.specs.Writing.{Adds, RefusesWrite, written_and_flushed}
 use Rattle.ob_patterns.specs.declared.broadcasting.LeftOut.{LeftOut}
 use Rattle.ob_patterns.specs.declared.broadcasting.LeftOut.TheVariants.{Unwritable, Refused}
 use Rattle.ob_patterns.specs.declared.broadcasting.Reached.{Reached}

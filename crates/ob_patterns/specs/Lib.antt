@@ -1,6 +1,4 @@
-pub mod Adding
 pub mod Broadcasting
-pub mod Chunking
-pub mod Saying
 pub mod Sending
 pub mod Urgent
+pub mod Writing

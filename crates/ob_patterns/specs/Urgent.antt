@@ -15,8 +15,7 @@ use Rattle.ob_connection.specs.declared.connection.sending.SendFault.{SendFault}
 use Rattle.ob_connection.specs.declared.connection.sending.SendFault.TheVariants.{Closed as IsClosed}
 use Rattle.ob_connection.specs.declared.connection.sending.SendFault.TheVariants.{Broken as IsBroken}
 use Rattle.ob_connection.specs.declared.connection.sending.Sent.{Sent}
-use Rattle.ob_patterns.specs.Saying.{Says}
-use Rattle.ob_patterns.specs.Sending.{IsGivenUp, Spins, broken, most_bytes}
+use Rattle.ob_patterns.specs.Sending.{Says, IsGivenUp, Spins, broken, most_bytes}
 use Rattle.ob_patterns.specs.declared.next.Next.{Next}
 use Rattle.ob_patterns.specs.declared.next.Next.TheVariants.{Rest, WaitForRoom, ComeAgain, SendFront, Closed, Broken}
 

@@ -1,6 +1,6 @@
 ghost use Rattle.std.specs.Prelude.{◌≡◌, ◌∷◌, [], ℕ, List, Option};
 ghost use Rattle.ob_connection.specs.Calls.{with_more};
-ghost use Rattle.ob_patterns.specs.Chunking.{WritesGiven};
+ghost use Rattle.ob_patterns.specs.Writing.{WritesGiven};
 
 use bytes::Bytes;
 use ob_connection::{Connection, Refused};

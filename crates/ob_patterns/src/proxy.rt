@@ -3,7 +3,7 @@ ghost use Rattle.ob_types.specs.declared.message.Message.TheVariants.{Block};
 ghost use Rattle.ob_types.specs.declared.reply.Change.TheVariants.{Writable};
 ghost use Rattle.ob_connection.specs.Connected.{Gives};
 ghost use Rattle.ob_seq.specs.State.{writable_after};
-ghost use Rattle.ob_patterns.specs.Adding.{Adds, RefusesWrite, written_and_flushed};
+ghost use Rattle.ob_patterns.specs.Writing.{Adds, RefusesWrite, written_and_flushed};
 
 use bytes::Bytes;
 use ob_connection::{Connection, Refused, Sent};

@@ -1,9 +1,8 @@
 ghost use Rattle.std.specs.Prelude.{◌≡◌, IfErr, IfOk, OnErr};
 ghost use Rattle.ob_types.specs.declared.message.Message.TheVariants.{Block};
 ghost use Rattle.ob_connection.specs.Connected.{Connected};
-ghost use Rattle.ob_patterns.specs.Adding.{Adds, RefusesWrite, written_and_flushed};
-ghost use Rattle.ob_patterns.specs.Saying.{Says};
-ghost use Rattle.ob_patterns.specs.Sending.{Spins};
+ghost use Rattle.ob_patterns.specs.Writing.{Adds, RefusesWrite, written_and_flushed};
+ghost use Rattle.ob_patterns.specs.Sending.{Says, Spins};
 
 use crate::next::Next;
 use crate::turns::spin;

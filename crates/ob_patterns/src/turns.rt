@@ -1,8 +1,7 @@
 ghost use Rattle.std.specs.Prelude.{true};
 ghost use Rattle.ob_seq.specs.State.{closed_after};
 ghost use Rattle.ob_connection.specs.Connected.{Gives};
-ghost use Rattle.ob_patterns.specs.Saying.{Says};
-ghost use Rattle.ob_patterns.specs.Sending.{IsGivenUp, Serves, Spins, broken};
+ghost use Rattle.ob_patterns.specs.Sending.{Says, IsGivenUp, Serves, Spins, broken};
 
 use crate::next::Next;
 use ob_connection::{Connection, Ending, Socket};

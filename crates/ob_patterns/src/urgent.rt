@@ -1,7 +1,7 @@
 ghost use Rattle.std.specs.Option.{option_copied};
 ghost use Rattle.std.specs.Prelude.{◌≡◌, IfNone, IfSome, false, true};
 ghost use Rattle.ob_connection.specs.Connected.{Gives};
-ghost use Rattle.ob_patterns.specs.Saying.{Says};
+ghost use Rattle.ob_patterns.specs.Sending.{Says};
 ghost use Rattle.ob_patterns.specs.declared.next.Next.TheVariants.{Rest};
 ghost use Rattle.ob_patterns.specs.Urgent.{EndsCut, LeavesCut, SaysOfBoth, SendsUrgentFirst};
 ghost use Rattle.ob_patterns.specs.Urgent.{cut_after, is_left, next_by, next_of_cut};

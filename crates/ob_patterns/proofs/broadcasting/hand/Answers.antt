@@ -1,6 +1,6 @@
 use Rattle.std.proofs.Common.{rules, subst}
 use Rattle.ob_types.specs.declared.message.Message.TheVariants.{Block}
-use Rattle.ob_patterns.specs.Adding.{Adds, RefusesWrite, written_and_flushed}
+use Rattle.ob_patterns.specs.Writing.{Adds, RefusesWrite, written_and_flushed}
 use Rattle.ob_patterns.proofs.Flushing.{both_added, refuses}
 use Rattle.ob_patterns.proofs.broadcasting.hand.Goals as goal
 

@@ -1,6 +1,6 @@
 use Rattle.std.proofs.Common.{sym, subst}
 use Rattle.ob_patterns.proofs.Cut.{says_by}
-use Rattle.ob_patterns.specs.Saying.{Says}
+use Rattle.ob_patterns.specs.Sending.{Says}
 use Rattle.ob_patterns.proofs.urgent.next_at_cut.Goals as goal
 
 pub returns-then-is_cut-clause-says : goal.returns-then-is_cut-clause-says
