@@ -13,8 +13,7 @@ use Rattle.ob_connection.specs.Obeying.{done_reply}
 use Rattle.ob_connection.specs.declared.replies.Written.{Written as WrittenReply}
 use Rattle.ob_lifecycle.specs.Events.{Event, Finishing, Ticked, happens, is_finishing, was_over}
 use Rattle.ob_lifecycle.specs.Managed.{Brings, Gives, Managed, StandsFor, opened_as, WritesTo}
-use Rattle.ob_lifecycle.specs.Stalls.{names_by}
-use Rattle.ob_lifecycle.specs.Strain.{numbers_after}
+use Rattle.ob_lifecycle.specs.Strain.{names_by, numbers_after}
 use Rattle.ob_lifecycle.specs.declared.count.Count.{Count as CountReply}
 use Rattle.ob_lifecycle.specs.declared.fault.Told.{Told}
 use Rattle.ob_lifecycle.specs.declared.fault.WriteFault.{WriteFault}

@@ -11,7 +11,7 @@ use Rattle.std.proofs.lemmas.List.Sums.{sum_by-cons}
 use Rattle.ob_seq.specs.Rows.{is_unflushed}
 use Rattle.ob_seq.proofs.Rows.Order.{first_more, first_none, sent}
 use Rattle.ob_types.specs.Traits.{traits_of}
-use Rattle.ob_lifecycle.specs.Counts.{is_pending}
+use Rattle.ob_lifecycle.specs.Events.{is_pending}
 
 -- whether a command is a cancellation
 abbrev pub cancels : Command → Bool

@@ -12,9 +12,9 @@ use Rattle.ob_types.specs.declared.message.Message.{Message}
 use Rattle.ob_seq.specs.Effect.{effect, progressed_row, rows_after}
 use Rattle.ob_seq.specs.Rows.{Settings, new_row, counted_size, total}
 use Rattle.ob_types.specs.Replies.{is_cancelled, is_failed, is_success}
-use Rattle.ob_lifecycle.specs.Counts.{accepted_after, ended_after, ended_by, ended_of, is_pending}
-use Rattle.ob_lifecycle.specs.Counts.{none, pending_after, together, written_by, written_of}
-use Rattle.ob_lifecycle.specs.Events.{Event, Accepted, Refused, Finishing, Ticked, Opened, along, commands_in}
+use Rattle.ob_lifecycle.specs.Events.{accepted_after, ended_after, ended_by, ended_of, is_pending, none, pending_after}
+use Rattle.ob_lifecycle.specs.Events.{together, written_by, written_of, Event, Accepted, Refused, Finishing, Ticked}
+use Rattle.ob_lifecycle.specs.Events.{Opened, along, commands_in}
 use Rattle.ob_lifecycle.specs.declared.count.Count.{Count}
 use Rattle.ob_lifecycle.proofs.Ages.{alike_cancelled, alike_front, as_many_bytes, as_many_messages, effect_ages, fewer_bytes, fewer_messages, one_if, AllAlike}
 use Rattle.ob_lifecycle.proofs.Steps.{along_more, by_events, commands_more}

@@ -8,15 +8,13 @@ use Rattle.ob_types.specs.declared.reply.Reply.{Reply}
 use Rattle.ob_connection.specs.Connected.{Connected, StandsFor as ConnectionStandsFor, Gives as ConnectionGives}
 use Rattle.ob_connection.specs.Connected.{waiting_count_after}
 use Rattle.ob_connection.specs.Obeying.{Obeys}
-use Rattle.ob_lifecycle.specs.Counts.{most_told, none, tally_after, tally_by, written_of, Counts}
-use Rattle.ob_lifecycle.specs.Events.{Event, Accepted, Refused, commands_in, happens, asks_for_the_end, is_finishing}
-use Rattle.ob_lifecycle.specs.Events.{is_over, was_over}
+use Rattle.ob_lifecycle.specs.Events.{most_told, none, tally_after, tally_by, written_of, Counts, Event, Accepted}
+use Rattle.ob_lifecycle.specs.Events.{Refused, commands_in, happens, asks_for_the_end, is_finishing, is_over, was_over}
 use Rattle.ob_lifecycle.specs.Managed.{Managed, StandsFor, StandsForSome, Brings, opened_as}
 use Rattle.std.specs.Prelude.{if◌then◌else◌, is_ok}
 use Rattle.ob_seq.specs.State.{empty_after}
-use Rattle.ob_lifecycle.specs.Stalls.{watch_after, watched, watched_by}
+use Rattle.ob_lifecycle.specs.Strain.{watch_after, watched, watched_by, change_in, strain_after, strained}
 use Rattle.ob_lifecycle.specs.declared.watch.Watch.{Watch}
-use Rattle.ob_lifecycle.specs.Strain.{change_in, strain_after, strained}
 use Rattle.ob_lifecycle.specs.declared.strain.Strain.{Strain}
 use Rattle.ob_types.specs.declared.reply.Change.{Change}
 use Rattle.ob_lifecycle.proofs.Straining.{strains_accepted, strains_refused}

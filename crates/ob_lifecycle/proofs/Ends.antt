@@ -18,13 +18,14 @@ use Rattle.ob_connection.specs.declared.connection.sending.Sent.{Sent}
 use Rattle.ob_connection.specs.declared.replies.SentTurns.{SentTurns}
 use Rattle.ob_connection.specs.declared.replies.Taken.{Taken}
 use Rattle.ob_lifecycle.specs.Events.{Event, Accepted, Refused, Finishing, Ticked, Opened, commands_in, is_finishing}
-use Rattle.ob_lifecycle.specs.Events.{is_over, was_over, sending_happens, giving_up_happens}
+use Rattle.ob_lifecycle.specs.Events.{is_over, was_over, sending_happens, giving_up_happens, tally_after, tally_by}
+use Rattle.ob_lifecycle.specs.Events.{Counts, CountsGivingUp}
 use Rattle.ob_lifecycle.specs.Managed.{Managed, StandsFor, StandsForSome, Brings, Gives, opened_as}
 use Rattle.std.specs.Prelude.{is_ok, if◌then◌else◌}
 use Rattle.ob_seq.specs.State.{empty_after}
-use Rattle.ob_lifecycle.specs.Stalls.{TookNothing, is_named, names_by, rested, told_time, ticked, watch_after, watched, watched_by}
+use Rattle.ob_lifecycle.specs.Strain.{TookNothing, is_named, names_by, rested, told_time, ticked, watch_after, watched}
+use Rattle.ob_lifecycle.specs.Strain.{watched_by, change_in, strain_after, strained}
 use Rattle.ob_lifecycle.specs.declared.watch.Watch.{Watch}
-use Rattle.ob_lifecycle.specs.Strain.{change_in, strain_after, strained}
 use Rattle.ob_lifecycle.specs.declared.strain.Strain.{Strain}
 use Rattle.ob_types.specs.declared.reply.Change.{Change}
 use Rattle.ob_seq.specs.State.{writable_after}
@@ -36,7 +37,6 @@ use Rattle.ob_lifecycle.specs.declared.fault.WriteFault.TheVariants.{Refused as 
 use Rattle.ob_lifecycle.proofs.Steps.{and_all, commands_more, finishing_more, or_none, or_true, over_more}
 use Rattle.ob_lifecycle.proofs.Bringing.{and_not, unmoved_over, brings_command, brings_one, left_by_reach, managed_with, opened_alike, reached, uncounted}
 use Rattle.ob_lifecycle.proofs.Tallies.{cancels_step, fits_of, quiet, tally_accepted}
-use Rattle.ob_lifecycle.specs.Counts.{tally_after, tally_by, Counts, CountsGivingUp}
 use Rattle.ob_lifecycle.specs.declared.tally.Tally.{Tally}
 
 -- to ask for the end

@@ -10,9 +10,10 @@ use Rattle.ob_types.specs.declared.message.Message.{Message}
 use Rattle.ob_seq.specs.Effect.{rows_after}
 use Rattle.ob_seq.specs.Rows.{Settings, is_in_line, line, new_row}
 use Rattle.ob_seq.specs.State.{empty_after}
-use Rattle.ob_lifecycle.specs.Counts.{most_told}
-use Rattle.ob_lifecycle.specs.Events.{Event, Accepted, Refused, Finishing, Ticked, Opened, clock_after, commands_in}
-use Rattle.ob_lifecycle.specs.Stalls.{names_by, opened_now, rested, taken_by, taken_in, taken_of, ticked, told_time, watch_after, watched, KeepFlushed, TookLittle}
+use Rattle.ob_lifecycle.specs.Events.{most_told, Event, Accepted, Refused, Finishing, Ticked, Opened, clock_after}
+use Rattle.ob_lifecycle.specs.Events.{commands_in}
+use Rattle.ob_lifecycle.specs.Strain.{names_by, opened_now, rested, taken_by, taken_in, taken_of, ticked, told_time}
+use Rattle.ob_lifecycle.specs.Strain.{watch_after, watched, KeepFlushed, TookLittle}
 use Rattle.ob_lifecycle.specs.declared.limits.Limits.{Limits}
 use Rattle.ob_lifecycle.specs.declared.watch.Watch.{Watch}
 use Rattle.ob_lifecycle.proofs.Balance.{none_more, rows_more}

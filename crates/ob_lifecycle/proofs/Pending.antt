@@ -19,7 +19,8 @@ use Rattle.ob_connection.specs.Connected.{waiting_count_after}
 use Rattle.ob_connection.specs.Obeying.{GivesUp, Obeys, flushed_reply}
 use Rattle.ob_connection.specs.declared.replies.Flushed.{Flushed}
 use Rattle.ob_connection.specs.declared.replies.Taken.{Taken}
-use Rattle.ob_lifecycle.specs.Counts.{beyond, cancels_wait, is_pending, none, pending_after, plus, tally_by, Counts, CountsGivingUp}
+use Rattle.ob_lifecycle.specs.Events.{beyond, cancels_wait, is_pending, none, pending_after, plus, tally_by, Counts}
+use Rattle.ob_lifecycle.specs.Events.{CountsGivingUp}
 use Rattle.ob_lifecycle.specs.declared.count.Count.{Count}
 use Rattle.ob_lifecycle.specs.declared.tally.Tally.{Tally}
 use Rattle.ob_lifecycle.proofs.Ages.{effect_ages, one_if, AllAge, AllAlike}

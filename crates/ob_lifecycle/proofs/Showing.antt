@@ -1,8 +1,7 @@
 -- The numbers that a look shows: what was sent is what is left of what was accepted.
 use Rattle.std.proofs.Common.{◌≡◌, ◌+◌, ◌-◌, ◌≤◌, List, ap, ◌∙◌, arith}
 use Rattle.ob_types.specs.Replies.{is_success}
-use Rattle.ob_lifecycle.specs.Counts.{ended_after, pending_after}
-use Rattle.ob_lifecycle.specs.Events.{Event, commands_in}
+use Rattle.ob_lifecycle.specs.Events.{ended_after, pending_after, Event, commands_in}
 use Rattle.ob_lifecycle.specs.Managed.{Managed, StandsFor, opened_as}
 use Rattle.ob_lifecycle.specs.Strain.{numbers_after}
 use Rattle.ob_lifecycle.specs.declared.count.Count.{Count}

@@ -7,9 +7,10 @@ use Rattle.std.proofs.lemmas.List.Sums.{fold-append, sum_by-cons}
 use Rattle.ob_types.specs.Traits.{is_write}
 use Rattle.ob_types.specs.declared.command.Command.{Command}
 use Rattle.ob_seq.specs.State.{empty_after}
-use Rattle.ob_lifecycle.specs.Counts.{most_told}
-use Rattle.ob_lifecycle.specs.Events.{Event, Accepted, Refused, Finishing, Ticked, Opened, clock_after, commands_in, time_of}
-use Rattle.ob_lifecycle.specs.Stalls.{opened_now, rested, taken_by, taken_in, taken_of, ticked, told_time, watch_after, watched, watched_from, KeepFlushed, TookNothing}
+use Rattle.ob_lifecycle.specs.Events.{most_told, Event, Accepted, Refused, Finishing, Ticked, Opened, clock_after}
+use Rattle.ob_lifecycle.specs.Events.{commands_in, time_of}
+use Rattle.ob_lifecycle.specs.Strain.{opened_now, rested, taken_by, taken_in, taken_of, ticked, told_time, watch_after}
+use Rattle.ob_lifecycle.specs.Strain.{watched, watched_from, KeepFlushed, TookNothing}
 use Rattle.ob_lifecycle.specs.declared.limits.Limits.{Limits}
 use Rattle.ob_lifecycle.specs.declared.watch.Watch.{Watch}
 use Rattle.ob_lifecycle.proofs.Balance.{none_more}

@@ -14,9 +14,10 @@ use Rattle.ob_seq.specs.Rows.{Settings, total}
 use Rattle.ob_connection.specs.Connected.{Connected, Gives as ConnectionGives}
 use Rattle.ob_connection.specs.Obeying.{Obeys}
 use Rattle.ob_types.specs.Replies.{is_cancelled, is_failed}
-use Rattle.ob_lifecycle.specs.Counts.{accepted_after, beyond, cancels_wait, ended_after, ended_by, ended_of, none, peak_after}
-use Rattle.ob_lifecycle.specs.Counts.{pending_after, plus, reached_by, tally_after, tally_by, together, written_by, written_of, Counts, Fits, FitsSome}
-use Rattle.ob_lifecycle.specs.Events.{Event, Accepted, Refused, Finishing, Ticked, Opened, along, commands_in}
+use Rattle.ob_lifecycle.specs.Events.{accepted_after, beyond, cancels_wait, ended_after, ended_by, ended_of, none}
+use Rattle.ob_lifecycle.specs.Events.{peak_after, pending_after, plus, reached_by, tally_after, tally_by, together}
+use Rattle.ob_lifecycle.specs.Events.{written_by, written_of, Counts, Fits, FitsSome, Event, Accepted, Refused}
+use Rattle.ob_lifecycle.specs.Events.{Finishing, Ticked, Opened, along, commands_in}
 use Rattle.ob_lifecycle.specs.Managed.{Managed, StandsFor, StandsForSome, opened_as}
 use Rattle.ob_lifecycle.specs.declared.count.Count.{Count}
 use Rattle.ob_lifecycle.specs.declared.tally.Tally.{Tally}

@@ -1,7 +1,7 @@
 -- What one more event makes of the window.
 use Rattle.std.proofs.Common.{◌≡◌, List, [], ◌∷◌, ◌++◌, sym, ap, ◌∙◌, append-nil, append_assoc}
 use Rattle.ob_lifecycle.specs.Events.{Event, Opened}
-use Rattle.ob_lifecycle.specs.Stalls.{watch_after, watched, watched_from}
+use Rattle.ob_lifecycle.specs.Strain.{watch_after, watched, watched_from}
 use Rattle.ob_lifecycle.specs.declared.watch.Watch.{Watch}
 
 watch_from_more : (opened : Opened) (earlier : List Event) (watch : Watch) (events : List Event) (event : Event)

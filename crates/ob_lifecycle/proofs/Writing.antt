@@ -14,7 +14,8 @@ use Rattle.ob_connection.specs.Connected.{Connected, StandsFor as ConnectionStan
 use Rattle.ob_connection.specs.Connected.{Refuses, waiting_count_after}
 use Rattle.ob_connection.specs.Obeying.{Accepts, Obeys, written_reply}
 use Rattle.ob_connection.specs.declared.replies.Written.{Written}
-use Rattle.ob_lifecycle.specs.Events.{Event, Accepted, Refused as WasRefused, commands_in, is_finishing}
+use Rattle.ob_lifecycle.specs.Events.{Event, Accepted, Refused as WasRefused, commands_in, is_finishing, is_untold}
+use Rattle.ob_lifecycle.specs.Events.{most_told, pending_after, tally_by, Counts}
 use Rattle.ob_lifecycle.specs.Inside.{FitsIn, HasRoom, own_fault, own_fault_by}
 use Rattle.ob_lifecycle.specs.Managed.{Managed, StandsFor, Brings, Gives, opened_as, IsNotWritten, WritesTo, accepted}
 use Rattle.ob_lifecycle.specs.Managed.{declined, fault_in, fault_of_write, write_happens, StandsForSome}
@@ -24,7 +25,6 @@ use Rattle.std.proofs.lemmas.Bool.Decides.{nat_tests}
 use Rattle.ob_types.specs.declared.command.Command.{Command}
 use Rattle.ob_connection.specs.Connected.{Shows}
 use Rattle.ob_connection.specs.declared.look.Look.{Look}
-use Rattle.ob_lifecycle.specs.Counts.{is_untold, most_told, pending_after, tally_by, Counts}
 use Rattle.ob_lifecycle.specs.declared.count.Count.{Count}
 use Rattle.ob_lifecycle.specs.declared.tally.Tally.{Tally}
 use Rattle.ob_lifecycle.specs.Strain.{change_in, strained}

@@ -4,8 +4,7 @@ use Rattle.ob_types.specs.PendingSize.{counted_bytes, is_oversize}
 use Rattle.ob_types.specs.declared.message.Message.{Message}
 use Rattle.ob_seq.specs.State.{is_closed}
 use Rattle.ob_types.specs.declared.refusal.Refusal.TheVariants.{NoMemory}
-use Rattle.ob_lifecycle.specs.Counts.{most_told}
-use Rattle.ob_lifecycle.specs.Events.{Event, Opened, commands_in, is_finishing}
+use Rattle.ob_lifecycle.specs.Events.{most_told, Event, Opened, commands_in, is_finishing}
 use Rattle.ob_lifecycle.specs.Managed.{Gives, Managed, StandsFor, opened_as, IsNotWritten, fault_of_write}
 use Rattle.ob_lifecycle.specs.Managed.{is_past_the_cap}
 use Rattle.ob_lifecycle.specs.declared.fault.WriteFault.{WriteFault}

@@ -15,11 +15,9 @@ use Rattle.ob_seq.specs.Unsent.{room_for_one_more}
 use Rattle.ob_connection.specs.Connected.{Connected, StandsFor as ConnectionStandsFor, connection_limit, room_in}
 use Rattle.ob_connection.specs.Obeying.{Obeys, written_reply}
 use Rattle.ob_connection.specs.declared.replies.Written.{Written}
-use Rattle.ob_lifecycle.specs.Counts.{most_told, tally_after, accepted_after, is_untold}
-use Rattle.ob_lifecycle.specs.Events.{Event, Opened, commands_in, finishes, is_finishing, was_over, Accepted}
-use Rattle.ob_lifecycle.specs.Events.{Refused as WasRefused}
-use Rattle.ob_lifecycle.specs.Stalls.{watch_after}
-use Rattle.ob_lifecycle.specs.Strain.{strain_after}
+use Rattle.ob_lifecycle.specs.Events.{most_told, tally_after, accepted_after, is_untold, Event, Opened, commands_in}
+use Rattle.ob_lifecycle.specs.Events.{finishes, is_finishing, was_over, Accepted, Refused as WasRefused}
+use Rattle.ob_lifecycle.specs.Strain.{watch_after, strain_after}
 use Rattle.ob_lifecycle.specs.declared.ending.Ending.{Ending}
 use Rattle.ob_lifecycle.specs.declared.fault.WriteFault.{WriteFault}
 use Rattle.ob_lifecycle.specs.declared.fault.WriteFault.TheVariants.{Refused, Finishing, Full}

@@ -1,5 +1,5 @@
 ghost use Rattle.std.specs.Prelude.{◌≡◌, ◌≤◌, ◌+◌};
-ghost use Rattle.ob_lifecycle.specs.Counts.{beyond, most_told, plus};
+ghost use Rattle.ob_lifecycle.specs.Events.{beyond, most_told, plus};
 
 /// How many messages, and how many bytes they count together, each with the overhead of an entry.
 #[derive(Clone, Copy, Debug, PartialEq, Eq)]

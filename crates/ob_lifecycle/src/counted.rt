@@ -7,7 +7,7 @@ ghost use Rattle.ob_seq.specs.State.{closed_after};
 ghost use Rattle.ob_connection.specs.Connected.{Gives, KeepsRoom, TakesNoRoom, room_in};
 ghost use Rattle.ob_connection.specs.Obeying.{GivesUp, Obeys, IsNext, IsQuiet, flushed_reply, removed_reply, taken_reply};
 ghost use Rattle.ob_connection.specs.Obeying.{cancelled_reply};
-ghost use Rattle.ob_lifecycle.specs.Counts.{Counts, CountsGivingUp, FitsSome, most_told, pending_after};
+ghost use Rattle.ob_lifecycle.specs.Events.{Counts, CountsGivingUp, FitsSome, most_told, pending_after};
 
 use crate::count::Count;
 use crate::tally::Tally;

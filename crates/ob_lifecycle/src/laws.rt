@@ -2,10 +2,8 @@
 //! those give.
 
 ghost use Rattle.std.specs.Prelude.{◌≡◌, ◌≤◌, ℕ, List, ◌∷◌, ◌++◌, [], true};
-ghost use Rattle.ob_lifecycle.specs.Counts.{most_told};
-ghost use Rattle.ob_lifecycle.specs.Events.{Event, Opened, Ticked, all_of, is_over, times_told};
-ghost use Rattle.ob_lifecycle.specs.Stalls.{TookLittle, TookNothing, names_by, watch_after};
-ghost use Rattle.ob_lifecycle.specs.Strain.{all_told, numbers_after};
+ghost use Rattle.ob_lifecycle.specs.Events.{most_told, Event, Opened, Ticked, all_of, is_over, times_told};
+ghost use Rattle.ob_lifecycle.specs.Strain.{TookLittle, TookNothing, names_by, watch_after, all_told, numbers_after};
 
 /// Whatever calls are made, at most one tells that the end is reached; and just one has, once the end was asked for and
 /// nothing that was accepted is left.

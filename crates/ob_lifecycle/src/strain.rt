@@ -1,5 +1,5 @@
 ghost use Rattle.std.specs.Prelude.{◌≡◌, ◌≤◌, ◌+◌, ◌-◌, if◌then◌else◌};
-ghost use Rattle.ob_lifecycle.specs.Counts.{most_told};
+ghost use Rattle.ob_lifecycle.specs.Events.{most_told};
 ghost use Rattle.ob_lifecycle.specs.Strain.{is_stop, more_if, refused_more, strained};
 ghost use Rattle.ob_lifecycle.specs.declared.fault.WriteFault.TheVariants.{Refused as Declined};
 

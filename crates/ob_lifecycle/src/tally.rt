@@ -1,5 +1,5 @@
 ghost use Rattle.std.specs.Prelude.{◌≡◌, ◌≤◌, ◌<◌, ◌+◌, max, false, None, Some, if◌then◌else◌};
-ghost use Rattle.ob_lifecycle.specs.Counts.{beyond, is_untold, most_told, none, plus};
+ghost use Rattle.ob_lifecycle.specs.Events.{beyond, is_untold, most_told, none, plus};
 
 use crate::count::Count;
 

@@ -1,6 +1,6 @@
 ghost use Rattle.std.specs.Prelude.{◌≡◌, ◌+◌, ◌&&◌, not, min, if◌then◌else◌, None, false};
-ghost use Rattle.ob_lifecycle.specs.Counts.{most_told};
-ghost use Rattle.ob_lifecycle.specs.Stalls.{rested, told_time, ticked};
+ghost use Rattle.ob_lifecycle.specs.Events.{most_told};
+ghost use Rattle.ob_lifecycle.specs.Strain.{rested, told_time, ticked};
 
 use crate::limits::Limits;
 

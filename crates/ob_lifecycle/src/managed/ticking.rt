@@ -1,7 +1,7 @@
 ghost use Rattle.std.specs.Prelude.{◌≡◌, ℕ, List, false, true, [], ◌∷◌, ◌++◌};
 ghost use Rattle.ob_lifecycle.specs.Events.{Event, Ticked};
 ghost use Rattle.ob_lifecycle.specs.Managed.{Brings, Gives, StandsFor, opened_as};
-ghost use Rattle.ob_lifecycle.specs.Stalls.{TookLittle, TookNothing, is_named, names_by};
+ghost use Rattle.ob_lifecycle.specs.Strain.{TookLittle, TookNothing, is_named, names_by};
 
 use super::ManagedConnection;
 

@@ -1,12 +1,11 @@
 use Rattle.std.proofs.Common.{refl, subst, ap, ◌∙◌}
 use Rattle.std.specs.Prelude.{if◌then◌else◌, None}
-use Rattle.ob_lifecycle.specs.Stalls.{watched_by}
+use Rattle.ob_lifecycle.specs.Strain.{watched_by, strained}
 use Rattle.ob_types.specs.declared.command.Command.TheVariants.{Cancel}
 use Rattle.ob_connection.specs.Obeying.{cancelled_reply}
 use Rattle.ob_lifecycle.specs.Events.{happens}
 use Rattle.ob_lifecycle.specs.Inside.{managed_of}
 use Rattle.ob_lifecycle.specs.Managed.{Brings}
-use Rattle.ob_lifecycle.specs.Strain.{strained}
 use Rattle.ob_lifecycle.proofs.Bringing.{brings_command, stands_on, managed_with}
 use Rattle.ob_lifecycle.proofs.managed.ManagedConnection.cancel.Goals as goal
 

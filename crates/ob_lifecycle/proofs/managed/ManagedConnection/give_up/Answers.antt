@@ -1,10 +1,9 @@
 use Rattle.std.proofs.Common.{subst, ap, ◌∙◌}
 use Rattle.std.specs.Prelude.{if◌then◌else◌}
 use Rattle.ob_types.specs.declared.command.Command.TheVariants.{Close}
-use Rattle.ob_lifecycle.specs.Stalls.{watched_by}
+use Rattle.ob_lifecycle.specs.Strain.{watched_by, strained}
 use Rattle.ob_lifecycle.specs.Inside.{managed_of}
 use Rattle.ob_lifecycle.specs.Managed.{Brings}
-use Rattle.ob_lifecycle.specs.Strain.{strained}
 use Rattle.ob_lifecycle.proofs.Bringing.{managed_with, stands_on}
 use Rattle.ob_lifecycle.proofs.Tallies.{fits_some}
 use Rattle.ob_lifecycle.proofs.Ends.{brings_give_up}

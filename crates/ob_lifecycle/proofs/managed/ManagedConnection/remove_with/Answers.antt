@@ -1,12 +1,11 @@
 use Rattle.std.proofs.Common.{refl, subst, ap, ◌∙◌}
 use Rattle.std.specs.Prelude.{if◌then◌else◌}
-use Rattle.ob_lifecycle.specs.Stalls.{watched_by}
+use Rattle.ob_lifecycle.specs.Strain.{watched_by, strained}
 use Rattle.ob_types.specs.declared.command.Command.TheVariants.{RemoveWith}
 use Rattle.ob_connection.specs.Obeying.{removed_reply}
 use Rattle.ob_lifecycle.specs.Events.{happens}
 use Rattle.ob_lifecycle.specs.Inside.{managed_of}
 use Rattle.ob_lifecycle.specs.Managed.{Brings}
-use Rattle.ob_lifecycle.specs.Strain.{strained}
 use Rattle.ob_lifecycle.proofs.Bringing.{brings_command, stands_on, managed_with}
 use Rattle.ob_lifecycle.proofs.Tallies.{fits_some}
 use Rattle.ob_lifecycle.proofs.managed.ManagedConnection.remove_with.Goals as goal

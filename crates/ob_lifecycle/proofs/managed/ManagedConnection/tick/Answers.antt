@@ -2,7 +2,7 @@ use Rattle.std.proofs.Common.{◌≡◌, ℕ, List, arith, false, true, subst, s
 use Rattle.ob_lifecycle.specs.Events.{Event, Ticked}
 use Rattle.ob_lifecycle.specs.Inside.{managed_of}
 use Rattle.ob_lifecycle.specs.Managed.{Brings, Gives, StandsFor, opened_as}
-use Rattle.ob_lifecycle.specs.Stalls.{TookLittle, TookNothing, is_named, names_by}
+use Rattle.ob_lifecycle.specs.Strain.{TookLittle, TookNothing, is_named, names_by}
 use Rattle.ob_lifecycle.proofs.Bringing.{managed_with, stands_on}
 use Rattle.ob_lifecycle.proofs.Ends.{brings_tick, names_at, stands_named, tick_fits}
 use Rattle.ob_lifecycle.proofs.Naming.{took_little}
