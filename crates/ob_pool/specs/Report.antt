@@ -16,7 +16,7 @@ use Rattle.ob_history.specs.Receipts.{records_of}
 use Rattle.ob_history.specs.Seen.{settlements_in}
 use Rattle.ob_history.specs.declared.record.Record.{Record}
 use Rattle.ob_transport.specs.Pass.{HasTaken}
-use Rattle.ob_transport.specs.Sink.{Content}
+use Rattle.ob_transport.specs.Sent.{Content}
 use Rattle.ob_pool.specs.declared.report.Report.{Report}
 
 -- whether a command is a flush

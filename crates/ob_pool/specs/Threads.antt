@@ -9,8 +9,7 @@ use Rattle.ob_history.specs.Receipts.{record_of}
 use Rattle.ob_history.specs.declared.receipt.Receipt.{Receipt}
 use Rattle.ob_history.specs.declared.record.Record.{Record}
 use Rattle.ob_shared.specs.Calls.{Handed, Maker, one_more, ShareValue}
-use Rattle.ob_transport.specs.Sent.{Sent, sent_in}
-use Rattle.ob_transport.specs.Sink.{Content}
+use Rattle.ob_transport.specs.Sent.{Sent, sent_in, Content}
 use Rattle.ob_lanes.specs.RunningLane.{RunningLane, WordsValue}
 use Rattle.ob_pool.specs.Drive.{ComesOfWork, room_of}
 use Rattle.ob_pool.specs.Inside.{AreCounted}

@@ -8,8 +8,8 @@ use Rattle.ob_types.specs.declared.message.Message.{Message}
 use Rattle.ob_types.specs.declared.message.Message.TheVariants.{Block, Region, Other}
 use Rattle.ob_transport.specs.Inside.{Clearing, IsOffered, Offer, Units, offer_at, offer_by}
 use Rattle.ob_transport.specs.Pass.{Clears, Standing}
-use Rattle.ob_transport.specs.Sent.{current_in, gathered_in, progress_in}
-use Rattle.ob_transport.specs.Sink.{Asked, IsAskedOnce, StandsInFront, answer_told}
+use Rattle.ob_transport.specs.Sent.{current_in, gathered_in, progress_in, Asked, IsAskedOnce, StandsInFront}
+use Rattle.ob_transport.specs.Sent.{answer_told}
 use Rattle.ob_transport.specs.declared.fault.Pass.{Pass}
 use Rattle.ob_transport.specs.declared.fault.Pass.TheVariants.{Idle, Stalled, Cleared, Took}
 use Rattle.ob_transport.specs.declared.fault.PassFault.{PassFault}

@@ -21,8 +21,8 @@ use Rattle.ob_history.specs.History.{accepted_commands, History, LacksPlaces}
 use Rattle.ob_transport.specs.Pass.{GrowAlike, GrowAlikeBut, IsBooked, IsPass, Clears, SendsBytes, SendsUnits}
 use Rattle.ob_transport.specs.Pass.{booked_units, ready, Standing, standing}
 use Rattle.ob_transport.specs.Sent.{front_bytes, units_at, unread_bytes, bytes_sent_by, units_sent_by, current_in}
-use Rattle.ob_transport.specs.Sent.{gathered_in, progress_in, rows_in, sent_bytes_in, sent_units_in, unread_in}
-use Rattle.ob_transport.specs.Sink.{Content, with_more_bytes, with_more_units}
+use Rattle.ob_transport.specs.Sent.{gathered_in, progress_in, rows_in, sent_bytes_in, sent_units_in, unread_in, Content}
+use Rattle.ob_transport.specs.Sent.{with_more_bytes, with_more_units}
 use Rattle.ob_transport.specs.declared.fault.Pass.{Pass}
 use Rattle.ob_transport.specs.declared.fault.Pass.TheVariants.{Idle, Stalled, Cleared, Took}
 use Rattle.ob_transport.specs.declared.fault.PassFault.{PassFault}

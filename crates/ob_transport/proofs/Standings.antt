@@ -6,7 +6,7 @@ use Rattle.ob_types.specs.declared.command.Command.TheVariants.{Remove, Progress
 use Rattle.ob_history.specs.Call.{history_after}
 use Rattle.ob_history.specs.History.{History}
 use Rattle.ob_transport.specs.Pass.{booked_units, standing}
-use Rattle.ob_transport.specs.Sink.{Content}
+use Rattle.ob_transport.specs.Sent.{Content}
 
 -- with the same history and the same content a transport stands at the same
 pub same_standing : {history history' : History} {sink sink' : Content} → history ≡ history' → sink ≡ sink' →

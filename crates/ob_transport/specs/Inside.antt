@@ -13,9 +13,7 @@ use Rattle.ob_seq.specs.Rows.{Settings, front}
 use Rattle.ob_history.specs.Call.{IsCovered, history_after, is_full}
 use Rattle.ob_history.specs.History.{History, LacksPlaces, with_reserved}
 use Rattle.ob_transport.specs.Pass.{Clears, SendsBytes, SendsUnits, Standing}
-use Rattle.ob_transport.specs.Script.{Script}
-use Rattle.ob_transport.specs.Sent.{current_in, gathered_in, progress_in}
-use Rattle.ob_transport.specs.Sink.{Asked, OfBytes, OfUnits}
+use Rattle.ob_transport.specs.Sent.{Script, current_in, gathered_in, progress_in, Asked, OfBytes, OfUnits}
 use Rattle.ob_transport.specs.declared.fault.Pass.{Pass}
 use Rattle.ob_transport.specs.declared.fault.Pass.TheVariants.{Idle}
 use Rattle.ob_transport.specs.declared.fault.PassFault.{PassFault}

@@ -1,8 +1,8 @@
 ghost use Rattle.std.specs.List.{concat};
 ghost use Rattle.std.specs.Prelude.{◌≡◌, ◌<◌, ◌≤◌, ◌+◌, ◌-◌, ◌^◌, ◌++◌, drop, length, min, take, IfErr, IfOk, IsErrOf, OnErr};
 ghost use Rattle.std.specs.Prelude.{OnOk, vec_len};
-ghost use Rattle.ob_transport.specs.Script.{Plays, new_script, next_step, with_step_used};
-ghost use Rattle.ob_transport.specs.Sink.{with_failure, with_more_bytes, with_more_units, OfBytes, OfUnits};
+ghost use Rattle.ob_transport.specs.Sent.{Plays, new_script, next_step, with_step_used, with_failure, with_more_bytes};
+ghost use Rattle.ob_transport.specs.Sent.{with_more_units, OfBytes, OfUnits};
 
 use crate::sink::{Sink, SinkFault};
 use bytes::Bytes;
@@ -35,7 +35,7 @@ pub struct ScriptSink {
 }
 
 impl Model for ScriptSink {
-    ghost use Rattle.ob_transport.specs.Script.{Script};
+    ghost use Rattle.ob_transport.specs.Sent.{Script};
 
     ghost Value = { Script };
 

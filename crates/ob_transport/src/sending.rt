@@ -2,8 +2,8 @@ ghost use Rattle.std.specs.List.{concat};
 ghost use Rattle.std.specs.Prelude.{◌≡◌, None, Ok};
 ghost use Rattle.ob_transport.specs.Inside.{Ends, IsOffered, offer_of};
 ghost use Rattle.ob_transport.specs.Pass.{IsAccounted, IsPass, MayOffer, Clears, SendsBytes, SendsUnits, standing};
-ghost use Rattle.ob_transport.specs.Sent.{current_in};
-ghost use Rattle.ob_transport.specs.Sink.{IsAskedOnce, OfBytes, OfUnits, StandsInFront, answer_told, Content};
+ghost use Rattle.ob_transport.specs.Sent.{current_in, IsAskedOnce, OfBytes, OfUnits, StandsInFront, answer_told};
+ghost use Rattle.ob_transport.specs.Sent.{Content};
 ghost use Rattle.ob_transport.specs.declared.fault.Pass.TheVariants.{Idle};
 
 use crate::booking::{give, make_ready};

@@ -1,7 +1,7 @@
 ghost use Rattle.std.specs.List.{concat};
 ghost use Rattle.std.specs.Prelude.{◌≡◌, ◌≤◌, ℕ, length, take, IfOk, OnErr, Result};
-ghost use Rattle.ob_transport.specs.Sink.{Asked, OfBytes, OfUnits, Content, with_more_bytes, with_failure};
-ghost use Rattle.ob_transport.specs.Sink.{with_more_units};
+ghost use Rattle.ob_transport.specs.Sent.{Asked, OfBytes, OfUnits, Content, with_more_bytes, with_failure};
+ghost use Rattle.ob_transport.specs.Sent.{with_more_units};
 
 use bytes::Bytes;
 use thiserror::Error;

@@ -1,6 +1,6 @@
 //! A sink that counts how often it is offered something.
 
-ghost use Rattle.ob_transport.specs.Script.{Plays};
+ghost use Rattle.ob_transport.specs.Sent.{Plays};
 ghost use Rattle.std.specs.Prelude.{◌≡◌};
 ghost use Rattle.ob_cli.specs.More.{with_call, with_offer};
 

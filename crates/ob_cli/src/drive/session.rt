@@ -1,5 +1,5 @@
 ghost use Rattle.std.specs.Prelude.{◌≡◌, ◌++◌, List, [], ◌∷◌, true, not, IfOk};
-ghost use Rattle.ob_transport.specs.Script.{new_script};
+ghost use Rattle.ob_transport.specs.Sent.{new_script};
 ghost use Rattle.ob_cli.specs.Drive.{drive_grammar, most_after, most_passes, steps_of};
 ghost use Rattle.ob_cli.specs.Inside.{HasKept};
 ghost use Rattle.ob_cli.specs.declared.drive.line.DriveLine.{DriveLine};

@@ -16,8 +16,7 @@ use Rattle.ob_history.specs.Call.{IsRecording, history_after, is_full, next_reco
 use Rattle.ob_history.specs.History.{History}
 use Rattle.ob_history.specs.declared.record.Record.{Record}
 use Rattle.ob_transport.specs.Pass.{GrowAlike, IsPass, Clears, SendsBytes, SendsUnits, ready, Standing, standing}
-use Rattle.ob_transport.specs.Sent.{current_in, gathered_in, progress_in, sent_bytes_in, sent_units_in}
-use Rattle.ob_transport.specs.Sink.{Content}
+use Rattle.ob_transport.specs.Sent.{current_in, gathered_in, progress_in, sent_bytes_in, sent_units_in, Content}
 use Rattle.ob_transport.specs.declared.fault.Pass.{Pass}
 use Rattle.ob_transport.specs.declared.fault.Pass.TheVariants.{Idle, Stalled, Cleared, Took}
 use Rattle.ob_transport.specs.declared.fault.PassFault.{PassFault}

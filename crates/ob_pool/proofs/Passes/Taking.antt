@@ -19,8 +19,7 @@ use Rattle.ob_history.specs.declared.receipt.Receipt.{Receipt}
 use Rattle.ob_history.specs.declared.record.Record.{Record}
 use Rattle.ob_shared.specs.Calls.{Handed, Maker, ShareValue}
 use Rattle.ob_transport.specs.Pass.{GrowAlike, standing}
-use Rattle.ob_transport.specs.Sent.{Sent, nothing, sent_by, sent_bytes, sent_in, sent_units}
-use Rattle.ob_transport.specs.Sink.{Content}
+use Rattle.ob_transport.specs.Sent.{Sent, nothing, sent_by, sent_bytes, sent_in, sent_units, Content}
 use Rattle.ob_transport.proofs.Records.{at_seam, bytes_by_records, units_by_records}
 use Rattle.ob_pool.specs.Report.{failings_of, is_failing}
 use Rattle.ob_pool.specs.Threads.{commands_in, GrowsBy, HasTakenOf, HasTransported, failings_in, sent_at}

@@ -3,7 +3,7 @@
 ghost use Rattle.std.specs.Prelude.{◌≡◌, ◌+◌, ◌++◌, Ok, IfErr, IfOk, IsOkAnd};
 ghost use Rattle.ob_shared.specs.Calls.{IsAsOpened};
 ghost use Rattle.ob_transport.specs.Pass.{GrowAlike, MayOffer, standing};
-ghost use Rattle.ob_transport.specs.Sink.{Content};
+ghost use Rattle.ob_transport.specs.Sent.{Content};
 ghost use Rattle.ob_pool.specs.Drive.{ComesOfWork};
 ghost use Rattle.ob_pool.specs.Report.{failings_of};
 ghost use Rattle.ob_pool.specs.Threads.{GrowsBy, HasTakenOf, HasTransported, failings_in};

@@ -1,6 +1,6 @@
 //! A sink that is held in its calls, with the desk in its hands, and the writers that meet it there.
 
-ghost use Rattle.ob_transport.specs.Script.{Plays};
+ghost use Rattle.ob_transport.specs.Sent.{Plays};
 
 use crate::tests::drives::Driven;
 use crate::tests::gates::wait_for;
