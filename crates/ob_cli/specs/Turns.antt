@@ -5,10 +5,9 @@ use Rattle.std.specs.Prelude.{ℕ, ◌==◌, List, [], ◌∷◌, codes, ◌++�
 use Rattle.std.specs.Prelude.{is_some, if◌then◌else◌}
 use Rattle.ob_types.specs.Marks.{Marks}
 use Rattle.ob_types.specs.declared.reply.Change.{Change}
-use Rattle.ob_core.specs.Accounts.{sum_owed}
+use Rattle.ob_core.specs.World.{sum_owed, CoreState, new_core, start_fault}
 use Rattle.ob_core.specs.Step.{number_of}
 use Rattle.ob_core.specs.Turn.{core_after_all, event_of, core_after, change_of}
-use Rattle.ob_core.specs.World.{CoreState, new_core, start_fault}
 use Rattle.ob_core.specs.declared.ask.Ask.{Ask}
 use Rattle.ob_core.specs.declared.ask.Ask.TheVariants as ask
 use Rattle.ob_core.specs.declared.ask.Turn.{Turn}

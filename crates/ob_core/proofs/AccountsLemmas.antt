@@ -6,10 +6,9 @@ use Rattle.std.specs.List.{All}
 use Rattle.std.proofs.lemmas.Bool.Decides.{nat_tests}
 use Rattle.std.proofs.lemmas.List.Elements.{All-set, All-weaker}
 use Rattle.std.proofs.lemmas.Nat.Bits.{bit_at-lt}
-use Rattle.ob_core.specs.Accounts.{AccountsHold, BitsAgree, BytesAgree, IsWithinRoom, MarkAgrees, raisers, owed_by}
-use Rattle.ob_core.specs.Bits.{AreAmong}
+use Rattle.ob_core.specs.World.{AccountsHold, BitsAgree, BytesAgree, IsWithinRoom, MarkAgrees, raisers, owed_by}
+use Rattle.ob_core.specs.World.{AreAmong, CoreState, Grant}
 use Rattle.ob_core.specs.Step.{core_after_step, total_after, word_after, CanMake}
-use Rattle.ob_core.specs.World.{CoreState, Grant}
 use Rattle.ob_core.specs.declared.lane.Lane.{Lane}
 use Rattle.ob_core.specs.declared.lane_step.LaneStep.{LaneStep}
 use Rattle.ob_core.proofs.LaneSums.{all_at, at-le-sum_by, sum_by-put, sum_by-le-each, sum_by-le-outside}

@@ -8,11 +8,10 @@ use Rattle.std.proofs.lemmas.List.Elements.{All-map}
 use Rattle.std.proofs.lemmas.List.Sums.{sum_by-cons}
 use Rattle.std.proofs.lemmas.Nat.Bits.{bit_at-lt, bit_at-zero, bit_at_and, bit_at_or}
 use Rattle.ob_types.specs.Marks.{Marks}
-use Rattle.ob_core.specs.Accounts.{AccountsHold, BitsAgree, BytesAgree, IsWithinRoom, MarkAgrees, holders, raisers}
-use Rattle.ob_core.specs.Accounts.{sum_of_rooms, owed_by, sum_owed}
-use Rattle.ob_core.specs.Bits.{is_set, AreAmong}
-use Rattle.ob_core.specs.World.{first_fault, most_lanes, greatest_room, Grant, any_overlap, bits_of, holders_of}
-use Rattle.ob_core.specs.World.{is_bad_count, new_lane, new_core, one_lane, start_fault, grant_of, room_of, share_a_bit}
+use Rattle.ob_core.specs.World.{AccountsHold, BitsAgree, BytesAgree, IsWithinRoom, MarkAgrees, holders, raisers}
+use Rattle.ob_core.specs.World.{sum_of_rooms, owed_by, sum_owed, is_set, AreAmong, first_fault, most_lanes}
+use Rattle.ob_core.specs.World.{greatest_room, Grant, any_overlap, bits_of, holders_of, is_bad_count, new_lane}
+use Rattle.ob_core.specs.World.{new_core, one_lane, start_fault, grant_of, room_of, share_a_bit}
 use Rattle.ob_core.specs.declared.lane.Lane.{Lane}
 use Rattle.ob_core.specs.declared.lane_start.LaneStart.{LaneStart}
 use Rattle.ob_core.specs.declared.world_fault.WorldFault.TheVariants.{BadCount, TooMuchRoom, BitsTwice}

@@ -10,7 +10,7 @@ use Rattle.std.proofs.Math.Nat.{mul-add-div_right}
 use Rattle.std.proofs.Math.Pow.{pow-lt}
 use Rattle.std.proofs.lemmas.Nat.Bits.{bit_at-lt, bit_at-suc, bit_at_and, bit_at_or, bit_at_not, bit_at-pow_same}
 use Rattle.std.proofs.lemmas.Nat.Bits.{bit_at-pow_other, bit_at_cat_low, bit_at_cat_high, bit_at_above, same_from_bits}
-use Rattle.ob_core.specs.Bits.{is_set, with_bit, without_bit, PutsBit, SetsBit, ClearsBit, AreAmong, MakeUp}
+use Rattle.ob_core.specs.World.{is_set, with_bit, without_bit, PutsBit, SetsBit, ClearsBit, AreAmong, MakeUp}
 
 -- ---- one bit and the others
 

@@ -2,10 +2,8 @@
 use Rattle.std.proofs.Common.{◌≡◌, ℕ, ◌<◌, ◌≤◌, false, Some, ap, unwrap_or, arith}
 use Rattle.std.specs.List.{slice_get}
 use Rattle.ob_types.specs.Marks.{Marks}
-use Rattle.ob_core.specs.Accounts.{AccountsHold, owed_by}
-use Rattle.ob_core.specs.Bits.{is_set}
-use Rattle.ob_core.specs.Parts.{IsFree}
-use Rattle.ob_core.specs.World.{CoreState, Grant}
+use Rattle.ob_core.specs.World.{AccountsHold, owed_by, is_set, CoreState, Grant}
+use Rattle.ob_core.specs.Step.{IsFree}
 use Rattle.ob_core.specs.declared.lane.Lane.{Lane}
 use Rattle.ob_core.proofs.AccountsLemmas.{total-le-outside}
 

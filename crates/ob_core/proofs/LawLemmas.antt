@@ -4,13 +4,12 @@ use Rattle.std.specs.List.{cons_option}
 use Rattle.ob_types.specs.Marks.{is_writable, turn as turned, Marks}
 use Rattle.ob_types.specs.declared.reply.Change.{Change}
 use Rattle.ob_types.specs.declared.reply.Change.TheVariants.{Unwritable, Writable}
-use Rattle.ob_core.specs.Accounts.{AccountsHold, BytesAgree, MarkAgrees, sum_owed}
-use Rattle.ob_core.specs.Bits.{is_set}
+use Rattle.ob_core.specs.World.{AccountsHold, BytesAgree, MarkAgrees, sum_owed, is_set, CoreState, Grant, new_core}
+use Rattle.ob_core.specs.World.{grant_of}
 use Rattle.ob_core.specs.Inside.{IsSound}
 use Rattle.ob_core.specs.Step.{refusal_of}
 use Rattle.ob_core.specs.Turn.{answers_of, changes_in, core_after_all, AlternateFrom, step_of, lane_after_nothing}
 use Rattle.ob_core.specs.Turn.{core_after}
-use Rattle.ob_core.specs.World.{CoreState, Grant, new_core, grant_of}
 use Rattle.ob_core.specs.declared.ask.Ask.{Ask}
 use Rattle.ob_core.specs.declared.ask.Turn.{Turn}
 use Rattle.ob_core.specs.declared.lane.Lane.{Lane}

@@ -7,10 +7,9 @@ use Rattle.std.specs.List.{All, sum_by}
 use Rattle.std.proofs.lemmas.List.Elements.{All-set, All-push}
 use Rattle.std.proofs.lemmas.List.Sums.{sum_by_push}
 use Rattle.std.proofs.lemmas.Nat.Bits.{bit_at-zero}
-use Rattle.ob_core.specs.Accounts.{AccountsHold, IsWithinRoom, holders, raisers, sum_of_rooms, owed_by, sum_owed}
-use Rattle.ob_core.specs.Bits.{AreAmong}
-use Rattle.ob_core.specs.Parts.{IsFree, AreParts, spent_lane}
+use Rattle.ob_core.specs.World.{AccountsHold, IsWithinRoom, holders, raisers, sum_of_rooms, owed_by, sum_owed, AreAmong}
 use Rattle.ob_core.specs.World.{CoreState, Grant}
+use Rattle.ob_core.specs.Step.{IsFree, AreParts, spent_lane}
 use Rattle.ob_core.specs.declared.lane.Lane.{Lane}
 use Rattle.ob_core.proofs.AccountsLemmas.{MarkAgrees-lanes}
 use Rattle.ob_core.proofs.BitLemmas.{AreAmong-and, MakeUp-and}

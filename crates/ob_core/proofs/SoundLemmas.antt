@@ -2,11 +2,11 @@
 use Rattle.std.proofs.Common.{◌≡◌, ℕ, ◌≤◌, List, set, Some, None, slice_get, unwrap_or, ap, arith, length-set}
 use Rattle.std.proofs.lemmas.List.{length-map}
 use Rattle.ob_types.specs.Marks.{Marks}
-use Rattle.ob_core.specs.Accounts.{AccountsHold, owed_by, sum_owed}
+use Rattle.ob_core.specs.World.{AccountsHold, owed_by, sum_owed, CoreState, greatest_room, start_fault, grant_of}
+use Rattle.ob_core.specs.World.{new_lane, new_core}
 use Rattle.ob_core.specs.Inside.{IsSound}
 use Rattle.ob_core.specs.Step.{refusal_of, core_after_step, CanMake, FitsTotal}
 use Rattle.ob_core.specs.Turn.{step_of, lane_after_nothing}
-use Rattle.ob_core.specs.World.{CoreState, greatest_room, start_fault, grant_of, new_lane, new_core}
 use Rattle.ob_core.specs.declared.ask.Ask.{Ask}
 use Rattle.ob_core.specs.declared.ask.Turn.{Turn}
 use Rattle.ob_core.specs.declared.lane.Lane.{Lane}

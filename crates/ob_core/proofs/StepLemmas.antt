@@ -5,10 +5,9 @@ use Rattle.std.specs.Int.{bit_at}
 use Rattle.std.proofs.lemmas.Bool.{cases_eq}
 use Rattle.std.proofs.lemmas.Bool.Decides.{nat_tests}
 use Rattle.ob_types.specs.Marks.{Marks}
-use Rattle.ob_core.specs.Accounts.{IsWithinRoom, MarkAgrees, owed_by}
-use Rattle.ob_core.specs.Bits.{is_set, with_bit, without_bit, PutsBit, AreAmong}
-use Rattle.ob_core.specs.Step.{is_held, total_after, raised_word, lowered_word, word_after, lane_after, CanMake}
+use Rattle.ob_core.specs.World.{IsWithinRoom, MarkAgrees, owed_by, is_set, with_bit, without_bit, PutsBit, AreAmong}
 use Rattle.ob_core.specs.World.{CoreState}
+use Rattle.ob_core.specs.Step.{is_held, total_after, raised_word, lowered_word, word_after, lane_after, CanMake}
 use Rattle.ob_core.specs.declared.lane.Lane.{Lane}
 use Rattle.ob_core.specs.declared.lane_step.LaneStep.{LaneStep}
 use Rattle.ob_core.specs.declared.lane_step.LaneStep.TheVariants.{Add, Subtract, SetBit, ClearBit, Load}

@@ -2,10 +2,9 @@
 use Rattle.std.proofs.Common.{◌≡◌, ℕ, zero, suc, ◌<◌, ◌≤◌, Bool, true, false, not, eqb, [], ◌∷◌, nat_lt, is_some}
 use Rattle.std.proofs.Common.{List, Option, Some, None, refl, sym, ap, subst, ◌∙◌, slice_get, unwrap_or, arith}
 use Rattle.std.proofs.lemmas.Bool.Decides.{nat_tests}
-use Rattle.ob_core.specs.Accounts.{owed_by}
+use Rattle.ob_core.specs.World.{owed_by, first_fault, CoreState}
 use Rattle.ob_core.specs.Step.{is_held, refusal_of, CanMake}
 use Rattle.ob_core.specs.Turn.{charge_step, discharge_step, step_of, lane_after_nothing}
-use Rattle.ob_core.specs.World.{first_fault, CoreState}
 use Rattle.ob_core.specs.declared.ask.Ask.{Ask}
 use Rattle.ob_core.specs.declared.ask.Ask.TheVariants.{Charge, Discharge, Bit, Word, Total, Go}
 use Rattle.ob_core.specs.declared.ask.Turn.{Turn}

@@ -1,8 +1,7 @@
 -- How a world keeps its core, and what holds of each that was made, whatever turns it had. No public clause cites this
 -- module.
 use Rattle.std.specs.Prelude.{◌<◌, ◌≤◌, length}
-use Rattle.ob_core.specs.Accounts.{AccountsHold}
-use Rattle.ob_core.specs.World.{CoreState, most_lanes, greatest_room, Grant}
+use Rattle.ob_core.specs.World.{AccountsHold, CoreState, most_lanes, greatest_room, Grant}
 use Rattle.ob_core.specs.declared.world.World.TheInside.{Inside}
 
 -- the core that the fields of a world hold

@@ -1,12 +1,12 @@
 -- One step of one lane, which is one atomic operation on the one word: which asks of a lane are refused, what a step
--- changes of the total, of the word and of the lane, which lane may make it, what it finds, and what it leaves.
+-- changes of the total, of the word and of the lane, which lane may make it, what it finds, and what it leaves. Lanes
+-- divided and merged, which is no step of one lane, and changes neither the total nor the word.
 use Rattle.std.specs.Int.{bit_at}
 use Rattle.std.specs.Prelude.{ℕ, Bool, not, ◌&&◌, nat_lt, is_some, is_none, [], ◌∷◌, Option, Some, None, ◌≡◌, ◌+◌, ◌-◌}
-use Rattle.std.specs.Prelude.{◌^◌, ◌<◌, ◌≤◌, IsTrue, if◌then◌else◌, slice_get, slice_set, ◌≢◌}
+use Rattle.std.specs.Prelude.{◌^◌, ◌<◌, ◌≤◌, IsTrue, if◌then◌else◌, slice_get, slice_set, ◌≢◌, ◌++◌}
 use Rattle.ob_types.specs.Marks.{Marks, change_between, packed, word_half, total_half}
 use Rattle.ob_types.specs.declared.reply.Change.{Change}
-use Rattle.ob_core.specs.Bits.{is_set, with_bit, without_bit}
-use Rattle.ob_core.specs.World.{first_fault, CoreState}
+use Rattle.ob_core.specs.World.{is_set, with_bit, without_bit, first_fault, CoreState, AreAmong, MakeUp}
 use Rattle.ob_core.specs.declared.ask.Ask.{Ask}
 use Rattle.ob_core.specs.declared.ask.Ask.TheVariants.{Charge, Discharge, Bit, Word, Total, Go}
 use Rattle.ob_core.specs.declared.ask_fault.AskFault.{AskFault}
@@ -134,3 +134,39 @@ LeavesRest (Subtract amount) old new = (index : ℕ) → index ≢ 0 → bit_at 
 LeavesRest (SetBit bit) old new = new.total ≡ old.total
 LeavesRest (ClearBit bit) old new = new.total ≡ old.total
 LeavesRest Load old new = (new.total ≡ old.total) × (new.word ≡ old.word)
+
+-- a free lane has no debt
+pub record IsFree (lane : Lane) : Type 0 where
+  pub debt : lane.debt ≡ None
+
+-- a spent lane: it is free, and has no room and no bits
+abbrev pub spent_lane : Lane
+spent_lane = record { room = 0; debt = None; held = 0; raised = 0 }
+
+-- two free lanes have together the room and the bits of a third, each raised bit with the lane that holds it
+pub record AreParts (whole first second : Lane) : Type 0 where
+  pub whole_free : IsFree whole
+  pub first_free : IsFree first
+  pub second_free : IsFree second
+  pub rooms : first.room + second.room ≡ whole.room
+  pub held : MakeUp whole.held first.held second.held
+  pub raised : MakeUp whole.raised first.raised second.raised
+  pub first_among : AreAmong first.raised first.held
+  pub second_among : AreAmong second.raised second.held
+
+-- the lane with this index keeps one share of what it had, and gives the other to a new lane behind all others
+pub record IsDivision (old : CoreState) (index : ℕ) (kept given : Lane) (new : CoreState) : Type 0 where
+  pub lane : Lane
+  pub is_lane : slice_get old.lanes index ≡ Some lane
+  pub parts : AreParts lane kept given
+  pub after : new ≡ record old { lanes = slice_set old.lanes index kept ++ given ∷ [] }
+
+-- the lane with this index becomes one with another lane, which stays in its place as a spent one
+pub record IsMerger (old : CoreState) (index other : ℕ) (both : Lane) (new : CoreState) : Type 0 where
+  pub lane : Lane
+  pub other_lane : Lane
+  pub is_lane : slice_get old.lanes index ≡ Some lane
+  pub is_other : slice_get old.lanes other ≡ Some other_lane
+  pub apart : other ≢ index
+  pub parts : AreParts both lane other_lane
+  pub after : new ≡ record old { lanes = slice_set (slice_set old.lanes index both) other spent_lane }

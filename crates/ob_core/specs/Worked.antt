@@ -1,11 +1,9 @@
 -- Small core states and steps, with what the definitions have to say of them.
 use Rattle.std.specs.Prelude.{◌≡◌, ℕ, ◌+◌, ◌*◌, ◌^◌, List, [], ◌∷◌, Some, None}
 use Rattle.ob_types.specs.declared.reply.Change.TheVariants.{Unwritable, Writable}
-use Rattle.ob_core.specs.Accounts.{AccountsHold, MarkAgrees}
-use Rattle.ob_core.specs.Bits.{with_bit, without_bit, SetsBit, ClearsBit}
-use Rattle.ob_core.specs.Parts.{AreParts, IsDivision, IsMerger, spent_lane}
-use Rattle.ob_core.specs.Step.{value_found, change_found, word_after, LeavesRest}
-use Rattle.ob_core.specs.World.{CoreState, Grant}
+use Rattle.ob_core.specs.World.{AccountsHold, MarkAgrees, with_bit, without_bit, SetsBit, ClearsBit, CoreState, Grant}
+use Rattle.ob_core.specs.Step.{AreParts, IsDivision, IsMerger, spent_lane, value_found, change_found, word_after}
+use Rattle.ob_core.specs.Step.{LeavesRest}
 use Rattle.ob_core.specs.declared.lane.Lane.{Lane}
 use Rattle.ob_core.specs.declared.lane_step.LaneStep.TheVariants.{Add, Subtract, SetBit, ClearBit, Load}
 

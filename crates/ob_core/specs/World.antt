@@ -1,14 +1,50 @@
--- The core state: the two halves of the one word, the marks, and the lanes. How a world begins, within which limits,
--- and why one does not.
+-- The bits of a word: a word is a number of any width, and its lowest bit has index 0. The core state: the two halves
+-- of the one word, the marks, and the lanes; how a world begins, within which limits, and why one does not. The
+-- accounts: what the two halves of the word, the lanes and what they were opened with say of one another.
+use Rattle.std.specs.Int.{bit_at}
 use Rattle.std.specs.List.{list_any}
-use Rattle.std.specs.Prelude.{ℕ, List, Option, Bool, [], ◌∷◌, Some, None, if◌then◌else◌, false, not, ◌||◌, ◌==◌, nat_lt}
-use Rattle.std.specs.Prelude.{length, map, sum_by, bit_and, bit_or}
+use Rattle.std.specs.Prelude.{◌≡◌, ◌≢◌, ℕ, ◌+◌, ◌-◌, ◌^◌, ◌≤◌, Bool, ◌==◌, if◌then◌else◌, List, Option, [], ◌∷◌, Some}
+use Rattle.std.specs.Prelude.{None, false, not, ◌||◌, nat_lt, length, map, sum_by, bit_and, bit_or, unwrap_or, ◌<◌}
+use Rattle.std.specs.Prelude.{true, All}
 use Rattle.ob_types.specs.Marks.{Marks}
 use Rattle.ob_types.specs.declared.reply.Change.{Change}
 use Rattle.ob_core.specs.declared.lane.Lane.{Lane}
 use Rattle.ob_core.specs.declared.lane_start.LaneStart.{LaneStart}
 use Rattle.ob_core.specs.declared.world_fault.WorldFault.{WorldFault}
 use Rattle.ob_core.specs.declared.world_fault.WorldFault.TheVariants.{BadCount, TooMuchRoom, BitsTwice, NoMemory}
+
+-- whether the bit with this index is set
+abbrev pub is_set : ℕ → ℕ → Bool
+is_set word index = bit_at word index == 1
+
+-- the word with that bit set: what the bit counts is added, unless it is there
+abbrev pub with_bit : ℕ → ℕ → ℕ
+with_bit word index = if is_set word index then word else word + 2 ^ index
+
+-- the word with that bit cleared: what the bit counts is taken off, if it is there
+abbrev pub without_bit : ℕ → ℕ → ℕ
+without_bit word index = if is_set word index then word - 2 ^ index else word
+
+-- a new word has this value of this bit, and each other bit as the old word has it
+pub record PutsBit (value old index new : ℕ) : Type 0 where
+  pub here : bit_at new index ≡ value
+  pub others : (other : ℕ) → other ≢ index → bit_at new other ≡ bit_at old other
+
+-- a new word has this bit set, and each other bit as the old word has it
+abbrev pub SetsBit : ℕ → ℕ → ℕ → Type 0
+SetsBit old index new = PutsBit 1 old index new
+
+-- a new word has this bit clear, and each other bit as the old word has it
+abbrev pub ClearsBit : ℕ → ℕ → ℕ → Type 0
+ClearsBit old index new = PutsBit 0 old index new
+
+-- each bit of the first mask is set in the second
+abbrev pub AreAmong : ℕ → ℕ → Type 0
+AreAmong bits mask = (index : ℕ) → bit_at bits index ≤ bit_at mask index
+
+-- of each bit, two masks have together what the whole has
+abbrev pub MakeUp : ℕ → ℕ → ℕ → Type 0
+MakeUp whole first second = (index : ℕ) → bit_at first index + bit_at second index ≡ bit_at whole index
 
 -- a total, a word, the marks that the total is held against, and the lanes in the order of their numbers
 pub record CoreState : Type 0 where
@@ -102,3 +138,55 @@ number_of BadCount = 1
 number_of TooMuchRoom = 2
 number_of BitsTwice = 3
 number_of NoMemory = 4
+
+-- the bytes that a lane owes, 0 if it has no debt
+abbrev pub owed_by : Lane → ℕ
+owed_by lane = unwrap_or lane.debt 0
+
+-- the bytes that the lanes owe together
+abbrev pub sum_owed : List Lane → ℕ
+sum_owed lanes = sum_by owed_by lanes
+
+-- the rooms of the lanes together
+abbrev pub sum_of_rooms : List Lane → ℕ
+sum_of_rooms lanes = sum_by (λ lane. lane.room) lanes
+
+-- how many lanes hold the bit with this index
+abbrev pub holders : List Lane → ℕ → ℕ
+holders lanes index = sum_by (λ lane. bit_at lane.held index) lanes
+
+-- how many lanes have raised the bit with this index
+abbrev pub raisers : List Lane → ℕ → ℕ
+raisers lanes index = sum_by (λ lane. bit_at lane.raised index) lanes
+
+-- a lane owes at most its room
+abbrev pub IsWithinRoom : Lane → Type 0
+IsWithinRoom lane = owed_by lane ≤ lane.room
+
+-- the total is the sum owed, each lane is within its room, and the rooms add up to the whole
+pub record BytesAgree (grant : Grant) (core : CoreState) : Type 0 where
+  pub marks : core.marks ≡ grant.marks
+  pub total : core.total ≡ sum_owed core.lanes
+  pub rooms : sum_of_rooms core.lanes ≡ grant.room
+  pub within : All IsWithinRoom core.lanes
+
+-- bit 0 is set while the total is above the high mark and not below the low one, and clear while it is below the low
+-- mark and not above the high one; if the low mark is at most the high one, nothing is below the one and above the
+-- other
+pub record MarkAgrees (core : CoreState) : Type 0 where
+  pub above : core.marks.high < core.total → core.marks.low ≤ core.total → is_set core.word 0 ≡ true
+  pub below : core.total < core.marks.low → core.total ≤ core.marks.high → is_set core.word 0 ≡ false
+
+-- each bit is held by at most one lane, and only if the grant has it, which leaves bit 0 to the mark; a lane raises
+-- only what it holds, and but for bit 0 the word shows exactly what some lane has raised
+pub record BitsAgree (grant : Grant) (core : CoreState) : Type 0 where
+  pub mark : is_set grant.bits 0 ≡ false
+  pub held : (index : ℕ) → holders core.lanes index ≤ bit_at grant.bits index
+  pub among : All (λ lane. AreAmong lane.raised lane.held) core.lanes
+  pub shown : (index : ℕ) → 0 < index → raisers core.lanes index ≡ bit_at core.word index
+
+-- the accounts of a core state with what it was opened with: those of the bytes, the mark and the bits
+pub record AccountsHold (grant : Grant) (core : CoreState) : Type 0 where
+  pub bytes : BytesAgree grant core
+  pub mark : MarkAgrees core
+  pub bits : BitsAgree grant core

@@ -1,5 +1,5 @@
 ghost use Rattle.std.specs.Prelude.{◌≡◌, ◌<◌};
-ghost use Rattle.ob_core.specs.Bits.{is_set, with_bit, without_bit};
+ghost use Rattle.ob_core.specs.World.{is_set, with_bit, without_bit};
 
 /// The index of the bit that shows whether the total has passed a mark. It is no lane's.
 pub const MARK_BIT: u32 = 0;

@@ -1,6 +1,5 @@
 ghost use Rattle.std.specs.Prelude.{◌≡◌, ◌≤◌, length, map, IfOk, slice_get};
-ghost use Rattle.ob_core.specs.Accounts.{sum_owed};
-ghost use Rattle.ob_core.specs.World.{most_lanes, new_lane};
+ghost use Rattle.ob_core.specs.World.{sum_owed, most_lanes, new_lane};
 
 use crate::ask::Ask;
 use crate::ask_fault::AskFault;
@@ -26,10 +25,9 @@ pub struct Lane {
 
 impl Lane {
     ghost use Rattle.std.specs.Prelude.{◌≡◌};
-    ghost use Rattle.ob_core.specs.Accounts.{owed_by};
+    ghost use Rattle.ob_core.specs.World.{owed_by, new_lane};
     ghost use Rattle.ob_core.specs.Step.{is_held, refusal_of};
     ghost use Rattle.ob_core.specs.Turn.{step_of, lane_after_nothing};
-    ghost use Rattle.ob_core.specs.World.{new_lane};
 
     /// A lane that owes nothing and has set no bit.
     pub(crate) fn new(start: LaneStart) -> Lane

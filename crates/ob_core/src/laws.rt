@@ -7,13 +7,11 @@ pub mod steps;
 ghost use Rattle.std.specs.Prelude.{◌≡◌, ◌<◌, ◌≤◌, List, true, false};
 ghost use Rattle.ob_types.specs.Marks.{Marks};
 ghost use Rattle.ob_types.specs.declared.reply.Change.TheVariants.{Unwritable};
-ghost use Rattle.ob_core.specs.Bits.{is_set};
-ghost use Rattle.ob_core.specs.World.{CoreState, new_core, new_world};
+ghost use Rattle.ob_core.specs.World.{is_set, CoreState, new_core, new_world, sum_owed};
 ghost use Rattle.ob_core.specs.declared.ask.Turn.{Turn};
 ghost use Rattle.ob_core.specs.declared.lane_start.LaneStart.{LaneStart};
 ghost use Rattle.ob_core.specs.Turn.{IsOneStep, answers_of, changes_in, core_after_all, AlternateFrom, event_of};
 ghost use Rattle.ob_core.specs.Turn.{core_after};
-ghost use Rattle.ob_core.specs.Accounts.{sum_owed};
 
 /// Each turn is one atomic step of the lane that has it, or a refused ask, or nothing.
 pub fn each_turn_is_one_step()

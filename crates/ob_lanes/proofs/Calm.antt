@@ -5,10 +5,8 @@ use Rattle.std.proofs.Common.{nat_lt, if◌then◌else◌, refl, sym, ap, ◌∙
 use Rattle.std.specs.Int.{bit_at}
 use Rattle.std.proofs.lemmas.Bool.Decides.{nat_tests}
 use Rattle.ob_types.specs.Marks.{packed, word_half, total_half, Marks}
-use Rattle.ob_core.specs.Accounts.{AccountsHold}
-use Rattle.ob_core.specs.Bits.{is_set, without_bit}
+use Rattle.ob_core.specs.World.{AccountsHold, is_set, without_bit, Grant, one_lane, CoreState}
 use Rattle.ob_core.specs.Step.{total_after, raised_word, lowered_word, word_after, CanMake}
-use Rattle.ob_core.specs.World.{Grant, one_lane, CoreState}
 use Rattle.ob_core.specs.declared.lane.Lane.{Lane}
 use Rattle.ob_core.specs.declared.lane_step.LaneStep.{LaneStep}
 use Rattle.ob_core.specs.declared.lane_step.LaneStep.TheVariants.{Add, Subtract, SetBit, ClearBit, Load}

@@ -4,10 +4,9 @@ use Rattle.std.specs.Int.{bit_at}
 use Rattle.std.specs.List.{slice_get}
 use Rattle.atomic_table.specs.declared.shared.Seat.{Seat}
 use Rattle.ob_types.specs.Marks.{word_half, total_half}
-use Rattle.ob_core.specs.Bits.{is_set}
+use Rattle.ob_core.specs.World.{is_set, Grant}
 use Rattle.ob_core.specs.declared.lane.Lane.{Lane}
-use Rattle.ob_core.specs.World.{Grant}
-use Rattle.ob_core.specs.Parts.{IsFree}
+use Rattle.ob_core.specs.Step.{IsFree}
 use Rattle.ob_lanes.specs.RunningLane.{EndsRun, EndedAt, EndedIn, RunningLane, ShowsHeld}
 use Rattle.ob_lanes.specs.Ruled.{HasEnded}
 use Rattle.std.proofs.lemmas.List.Elements.{All-weaker}

@@ -5,12 +5,11 @@ use Rattle.std.specs.Int.{bit_at}
 use Rattle.std.proofs.lemmas.Bool.{le-ltb}
 use Rattle.std.proofs.lemmas.Bool.Decides.{nat_tests}
 use Rattle.std.proofs.lemmas.Nat.Bits.{bit_at_and, bit_at_or, bit_at_xor, bit_at-lt}
-use Rattle.ob_core.specs.World.{first_fault}
+use Rattle.ob_core.specs.World.{first_fault, AreAmong, MakeUp}
 use Rattle.ob_core.specs.declared.lane.Lane.{Lane}
 use Rattle.ob_lanes.specs.Calls.{IsJoined, split_fault, are_held, IsSplit}
 use Rattle.ob_lanes.specs.Inside.{kept_lane, given_lane, both_lanes}
-use Rattle.ob_core.specs.Bits.{AreAmong, MakeUp}
-use Rattle.ob_core.specs.Parts.{IsFree, AreParts}
+use Rattle.ob_core.specs.Step.{IsFree, AreParts}
 use Rattle.ob_lanes.specs.declared.fault.SplitFault.TheVariants.{NoRoom, NotHeld}
 use Rattle.ob_lanes.proofs.HeldBits.{are_held-from_among, among-from_are_held, among-from_or, or-from_among}
 

@@ -8,7 +8,7 @@ use Rattle.std.proofs.lemmas.List.Elements.{All-get_or}
 use Rattle.std.proofs.lemmas.List.FromFn.{get_or-range_with_len}
 use Rattle.std.proofs.lemmas.List.Sums.{AllPass-from_list_all, list_all-from_AllPass}
 use Rattle.std.proofs.lemmas.Nat.Bits.{bit_at-lt, bit_at-zero, bit_at_above, bit_at_or, same_from_bits}
-use Rattle.ob_core.specs.Bits.{is_set, AreAmong}
+use Rattle.ob_core.specs.World.{is_set, AreAmong}
 use Rattle.ob_lanes.specs.Calls.{are_held}
 
 -- one bit is at most another exactly if the test finds so

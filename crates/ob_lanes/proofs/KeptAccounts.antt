@@ -12,13 +12,10 @@ use Rattle.ob_core.proofs.BeginningLemmas.{AccountsHold-one_lane}
 use Rattle.ob_lanes.specs.Run.{IsMove, Leads}
 use Rattle.ob_lanes.specs.declared.facts.Move.{Move}
 use Rattle.ob_lanes.specs.declared.facts.Move.TheVariants.{Steps, Divides, Merges}
-use Rattle.ob_core.specs.Bits.{is_set}
+use Rattle.ob_core.specs.World.{is_set, AccountsHold, CoreState, Grant, one_lane}
 use Rattle.ob_core.proofs.LaneSums.{sum_by-le-each}
 use Rattle.ob_core.proofs.PartLemmas.{AccountsHold-division, AccountsHold-merger}
-use Rattle.ob_core.specs.Accounts.{AccountsHold}
-use Rattle.ob_core.specs.World.{CoreState, Grant, one_lane}
-use Rattle.ob_core.specs.Step.{IsCoreStep}
-use Rattle.ob_core.specs.Parts.{IsDivision, IsMerger}
+use Rattle.ob_core.specs.Step.{IsCoreStep, IsDivision, IsMerger}
 use Rattle.ob_core.specs.declared.lane.Lane.{Lane}
 use Rattle.ob_core.specs.declared.lane_step.LaneStep.{LaneStep}
 

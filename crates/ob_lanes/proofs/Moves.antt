@@ -10,9 +10,8 @@ use Rattle.std.proofs.lemmas.Option.{slice_get_within, get_or_from_slice_get}
 use Rattle.atomic_table.specs.Table.{State, Me, Act, keeps, Valid, stepped, carried_after}
 use Rattle.atomic_table.proofs.Lists.{set_here, set_else}
 use Rattle.ob_types.specs.Marks.{word_half, total_half}
-use Rattle.ob_core.specs.Accounts.{AccountsHold}
+use Rattle.ob_core.specs.World.{AccountsHold, CoreState, Grant}
 use Rattle.ob_core.specs.Step.{IsCoreStep, core_after_step, CanMake, total_after, word_after}
-use Rattle.ob_core.specs.World.{CoreState, Grant}
 use Rattle.ob_core.specs.declared.lane.Lane.{Lane}
 use Rattle.ob_core.specs.declared.lane_step.LaneStep.{LaneStep}
 use Rattle.ob_core.proofs.AccountsLemmas.{AccountsHold-step, total-le-room}

@@ -6,7 +6,7 @@ use Rattle.std.proofs.lemmas.Bool.Decides.{nat_tests}
 use Rattle.std.proofs.lemmas.Nat.{div-add-mod', pow-add}
 use Rattle.std.proofs.lemmas.Nat.Bits.{bit_at_cat_high}
 use Rattle.ob_types.specs.Marks.{packed, word_half, total_half, Marks}
-use Rattle.ob_core.specs.Bits.{is_set, with_bit, without_bit}
+use Rattle.ob_core.specs.World.{is_set, with_bit, without_bit}
 use Rattle.ob_core.specs.Step.{raised_word, lowered_word}
 use Rattle.ob_core.proofs.BitLemmas.{pow-le-of_bit, or-is-with_bit, and-is-without_bit}
 use Rattle.ob_core.proofs.FoundLemmas.{word_half-packed, total_half-packed}

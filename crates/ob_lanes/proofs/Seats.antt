@@ -17,9 +17,8 @@ use Rattle.ob_lanes.specs.Calls.{split_fault}
 use Rattle.ob_lanes.specs.Inside.{kept_facts, given_facts, both_facts, spent_facts}
 use Rattle.ob_lanes.specs.Ruled.{Ruled, HasEnded, HaveEnded, core_of}
 use Rattle.ob_lanes.specs.Run.{BeginsWith, BeginsWithAll, made_at, own_steps}
-use Rattle.ob_core.specs.Bits.{AreAmong}
-use Rattle.ob_core.specs.Parts.{IsFree, AreParts, IsDivision, IsMerger, spent_lane}
-use Rattle.ob_core.specs.World.{Grant}
+use Rattle.ob_core.specs.World.{AreAmong, Grant}
+use Rattle.ob_core.specs.Step.{IsFree, AreParts, IsDivision, IsMerger, spent_lane}
 use Rattle.ob_lanes.specs.declared.facts.Ended.{Ended}
 use Rattle.ob_lanes.specs.declared.facts.Facts.{Facts}
 use Rattle.ob_lanes.specs.declared.facts.Move.{Move}

@@ -2,9 +2,8 @@
 use Rattle.std.proofs.Common.{◌≡◌, ◌≢◌, ℕ, List, [], ◌++◌, refl, sym, ap, ◌∙◌, append_assoc, subst, arith}
 use Rattle.std.proofs.lemmas.List.Elements.{All-nil, All-cons, All-append}
 use Rattle.atomic_table.specs.declared.shared.Seat.{Seat}
-use Rattle.ob_core.specs.Accounts.{owed_by}
+use Rattle.ob_core.specs.World.{owed_by, Grant}
 use Rattle.ob_core.specs.Step.{lane_after}
-use Rattle.ob_core.specs.World.{Grant}
 use Rattle.ob_core.specs.declared.lane.Lane.{Lane}
 use Rattle.ob_core.specs.declared.lane_step.LaneStep.{LaneStep}
 use Rattle.ob_core.specs.declared.lane_step.LaneStep.TheVariants.{Load}

@@ -3,9 +3,8 @@ use Rattle.std.proofs.Common.{◌≡◌, ℕ, ◌<◌, ◌^◌, Bool, true, fals
 use Rattle.std.specs.List.{cons_option}
 use Rattle.ob_types.specs.Marks.{is_writable, turn, change_between}
 use Rattle.ob_types.specs.declared.reply.Change.{Change}
-use Rattle.ob_core.specs.Bits.{is_set}
+use Rattle.ob_core.specs.World.{is_set, CoreState, Grant, one_lane}
 use Rattle.ob_core.specs.Step.{IsCoreStep, change_found, value_found}
-use Rattle.ob_core.specs.World.{CoreState, Grant, one_lane}
 use Rattle.ob_core.specs.declared.lane_step.LaneStep.{LaneStep}
 use Rattle.ob_core.proofs.AccountsLemmas.{total-le-room}
 use Rattle.ob_core.proofs.FoundLemmas.{change_found-between}

@@ -1,13 +1,11 @@
 -- The runs of the worked rows, move by move.
 use Rattle.std.proofs.Common.{◌≡◌, ℕ, ◌<◌, ◌≤◌, List, [], ◌∷◌, ◌++◌, None, Some, refl, arith}
 use Rattle.ob_types.specs.Marks.{word_half, total_half}
-use Rattle.ob_core.specs.World.{CoreState, Grant, one_lane}
-use Rattle.ob_core.specs.Step.{IsCoreStep}
+use Rattle.ob_core.specs.World.{CoreState, Grant, one_lane, AreAmong, MakeUp}
+use Rattle.ob_core.specs.Step.{IsCoreStep, AreParts, IsDivision, IsMerger, spent_lane}
 use Rattle.ob_core.specs.declared.lane.Lane.{Lane}
 use Rattle.ob_core.specs.declared.lane_step.LaneStep.{LaneStep}
 use Rattle.ob_core.specs.declared.lane_step.LaneStep.TheVariants.{Add, SetBit, Load}
-use Rattle.ob_core.specs.Bits.{AreAmong, MakeUp}
-use Rattle.ob_core.specs.Parts.{AreParts, IsDivision, IsMerger, spent_lane}
 use Rattle.ob_core.specs.Worked.{free_lane}
 use Rattle.std.proofs.lemmas.List.Elements.{All-nil}
 use Rattle.std.proofs.lemmas.Nat.Bits.{bit_at-zero}

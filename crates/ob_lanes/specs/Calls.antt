@@ -6,11 +6,8 @@ use Rattle.std.specs.Prelude.{◌≡◌, ◌++◌, ℕ, ◌<◌, ◌==◌, List,
 use Rattle.std.specs.Prelude.{min, not, ◌||◌, nat_lt, [], ◌∷◌, max}
 use Rattle.ob_types.specs.Marks.{word_half, total_half}
 use Rattle.ob_types.specs.declared.reply.Change.{Change}
-use Rattle.ob_core.specs.Accounts.{owed_by}
-use Rattle.ob_core.specs.Bits.{is_set, MakeUp}
-use Rattle.ob_core.specs.Parts.{IsFree}
-use Rattle.ob_core.specs.Step.{change_found, lane_after}
-use Rattle.ob_core.specs.World.{first_fault}
+use Rattle.ob_core.specs.World.{owed_by, is_set, MakeUp, first_fault}
+use Rattle.ob_core.specs.Step.{IsFree, change_found, lane_after}
 use Rattle.ob_core.specs.declared.lane.Lane.{Lane}
 use Rattle.ob_core.specs.declared.lane_step.LaneStep.{LaneStep}
 use Rattle.ob_core.specs.declared.lane_step.LaneStep.TheVariants.{Load, SetBit, ClearBit}

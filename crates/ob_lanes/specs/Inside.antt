@@ -6,10 +6,8 @@ use lib.ListN.{get_elem?}
 use mathlib.Core.Option.{some}
 use Rattle.atomic_table.specs.Table.{State}
 use Rattle.atomic_table.specs.declared.shared.Seat.{Seat}
-use Rattle.ob_core.specs.Bits.{is_set}
-use Rattle.ob_core.specs.Parts.{spent_lane}
-use Rattle.ob_core.specs.Step.{lane_after}
-use Rattle.ob_core.specs.World.{Grant}
+use Rattle.ob_core.specs.World.{is_set, Grant}
+use Rattle.ob_core.specs.Step.{spent_lane, lane_after}
 use Rattle.ob_core.specs.declared.lane.Lane.{Lane}
 use Rattle.ob_core.specs.declared.lane_step.LaneStep.{LaneStep}
 use Rattle.ob_lanes.specs.Calls.{AreReads}

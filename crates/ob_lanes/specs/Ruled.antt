@@ -4,8 +4,7 @@ use mathlib.Core.Option.{some}
 use lib.ListN.{get_elem?}
 use Rattle.atomic_table.specs.Table.{State}
 use Rattle.ob_types.specs.Marks.{word_half, total_half}
-use Rattle.ob_core.specs.Accounts.{AccountsHold}
-use Rattle.ob_core.specs.World.{CoreState, Grant, one_lane}
+use Rattle.ob_core.specs.World.{AccountsHold, CoreState, Grant, one_lane}
 use Rattle.ob_lanes.specs.Run.{BeginsWithAll, made_at, names_in, Leads, own_steps}
 use Rattle.ob_lanes.specs.declared.facts.Ended.{Ended}
 use Rattle.ob_lanes.specs.declared.facts.Facts.{Facts}

@@ -5,8 +5,7 @@ use Rattle.std.specs.Prelude.{ℕ, zero, suc, false, List, [], ◌∷◌, ◌++�
 use Rattle.ob_types.specs.Marks.{Marks}
 use Rattle.ob_types.specs.declared.reply.Change.{Change}
 use Rattle.ob_types.specs.declared.reply.Change.TheVariants.{Unwritable, Writable}
-use Rattle.ob_core.specs.Parts.{IsDivision, IsMerger}
-use Rattle.ob_core.specs.Step.{lane_after, IsCoreStep, value_found, change_found}
+use Rattle.ob_core.specs.Step.{IsDivision, IsMerger, lane_after, IsCoreStep, value_found, change_found}
 use Rattle.ob_core.specs.World.{new_lane, Grant, CoreState}
 use Rattle.ob_core.specs.declared.lane.Lane.{Lane}
 use Rattle.ob_core.specs.declared.lane_step.LaneStep.{LaneStep}

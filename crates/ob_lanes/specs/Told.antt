@@ -3,9 +3,8 @@ use Rattle.std.specs.Prelude.{ℕ, false, ◌≡◌, ◌≢◌, ◌≤◌, ◌+�
 use Rattle.atomic_table.specs.Table.{Me, Step}
 use Rattle.atomic_table.specs.declared.shared.Seat.{Seat}
 use Rattle.ob_types.specs.Marks.{packed, word_half, total_half, Marks}
-use Rattle.ob_core.specs.Accounts.{owed_by}
+use Rattle.ob_core.specs.World.{owed_by, Grant}
 use Rattle.ob_core.specs.Step.{total_after, word_after, CanMake}
-use Rattle.ob_core.specs.World.{Grant}
 use Rattle.ob_core.specs.declared.lane_step.LaneStep.{LaneStep}
 use Rattle.ob_core.specs.declared.lane_step.LaneStep.TheVariants.{Add, Subtract, Load}
 use Rattle.ob_lanes.specs.Run.{facts_after}

@@ -2,7 +2,7 @@
 
 ghost use Rattle.std.specs.Prelude.{◌≡◌, ◌≤◌, ◌<◌, ◌+◌, ◌-◌};
 ghost use Rattle.ob_types.specs.Marks.{change_between, packed, word_half, total_half};
-ghost use Rattle.ob_core.specs.Bits.{with_bit, without_bit};
+ghost use Rattle.ob_core.specs.World.{with_bit, without_bit};
 ghost use Rattle.ob_core.specs.Step.{raised_word, lowered_word};
 
 use ob_types::{Change, WaterMark, unpack};

@@ -2,10 +2,8 @@
 
 ghost use Rattle.std.specs.Prelude.{◌≡◌, ◌<◌, ◌≤◌, ◌^◌, ◌⊎◌, ℕ, List, true, false};
 ghost use Rattle.ob_types.specs.Marks.{is_writable};
-ghost use Rattle.ob_core.specs.Accounts.{AccountsHold};
-ghost use Rattle.ob_core.specs.Bits.{is_set};
-ghost use Rattle.ob_core.specs.Parts.{IsFree};
-ghost use Rattle.ob_core.specs.World.{CoreState, Grant, one_lane};
+ghost use Rattle.ob_core.specs.World.{AccountsHold, is_set, CoreState, Grant, one_lane};
+ghost use Rattle.ob_core.specs.Step.{IsFree};
 ghost use Rattle.ob_lanes.specs.Run.{BeginsWith, changes_of, writable_after, TakeTurns, Leads};
 ghost use Rattle.ob_lanes.specs.declared.facts.Move.{Move};
 

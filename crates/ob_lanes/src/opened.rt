@@ -1,5 +1,5 @@
 ghost use Rattle.std.specs.Prelude.{◌≡◌, false, [], IfOk, IsOkUnless};
-ghost use Rattle.ob_core.specs.Bits.{is_set};
+ghost use Rattle.ob_core.specs.World.{is_set};
 ghost use Rattle.ob_lanes.specs.Run.{first_lane};
 
 use crate::grant::Grant;

@@ -9,7 +9,7 @@ use Rattle.ob_types.specs.Marks.{Marks}
 use Rattle.ob_types.specs.Traits.{traits_of, is_write}
 use Rattle.ob_types.specs.declared.command.Command.{Command}
 use Rattle.ob_types.specs.declared.promise.Outcome.{Outcome}
-use Rattle.ob_core.specs.Bits.{is_set}
+use Rattle.ob_core.specs.World.{is_set}
 use Rattle.ob_seq.specs.Pending.{times_settled}
 use Rattle.ob_history.specs.History.{accepted_commands, is_accepted, History, IsLegal}
 use Rattle.ob_history.specs.Receipts.{records_of}

@@ -4,12 +4,10 @@
 ghost use Rattle.std.specs.Prelude.{◌≡◌, ℕ, ◌+◌, ◌<◌, ◌≤◌, List, true, false, Some, None, slice_get};
 ghost use Rattle.std.specs.Int.{bit_at};
 ghost use Rattle.ob_types.specs.Marks.{Marks};
-ghost use Rattle.ob_core.specs.Accounts.{AccountsHold, owed_by};
-ghost use Rattle.ob_core.specs.Bits.{is_set};
-ghost use Rattle.ob_core.specs.Parts.{IsDivision, IsFree, IsMerger};
-ghost use Rattle.ob_core.specs.Step.{IsCoreStep};
+ghost use Rattle.ob_core.specs.World.{AccountsHold, owed_by, is_set, CoreState, Grant, start_fault, grant_of, new_core};
+ghost use Rattle.ob_core.specs.World.{one_lane};
+ghost use Rattle.ob_core.specs.Step.{IsDivision, IsFree, IsMerger, IsCoreStep};
 ghost use Rattle.ob_core.specs.Turn.{core_after};
-ghost use Rattle.ob_core.specs.World.{CoreState, Grant, start_fault, grant_of, new_core, one_lane};
 ghost use Rattle.ob_core.specs.declared.ask.Turn.{Turn};
 ghost use Rattle.ob_core.specs.declared.lane.Lane.{Lane};
 ghost use Rattle.ob_core.specs.declared.lane_start.LaneStart.{LaneStart};

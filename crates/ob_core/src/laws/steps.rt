@@ -2,9 +2,8 @@
 
 ghost use Rattle.std.specs.Prelude.{◌≡◌, ◌<◌, ◌^◌, ℕ};
 ghost use Rattle.ob_types.specs.Marks.{change_between};
-ghost use Rattle.ob_core.specs.Bits.{with_bit, without_bit, SetsBit, ClearsBit};
+ghost use Rattle.ob_core.specs.World.{with_bit, without_bit, SetsBit, ClearsBit, CoreState};
 ghost use Rattle.ob_core.specs.Step.{IsCoreStep, value_found, change_found, LeavesRest};
-ghost use Rattle.ob_core.specs.World.{CoreState};
 ghost use Rattle.ob_core.specs.declared.lane_step.LaneStep.{LaneStep};
 ghost use Rattle.ob_core.specs.declared.lane_step.LaneStep.TheVariants.{Load};
 

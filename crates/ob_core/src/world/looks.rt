@@ -1,6 +1,5 @@
 ghost use Rattle.std.specs.Prelude.{◌≡◌, ◌<◌, true, false};
-ghost use Rattle.ob_core.specs.Accounts.{sum_owed};
-ghost use Rattle.ob_core.specs.Bits.{is_set};
+ghost use Rattle.ob_core.specs.World.{sum_owed, is_set};
 
 use crate::lane::add_debts;
 use crate::world::World;

@@ -1,5 +1,5 @@
 ghost use Rattle.std.specs.Prelude.{◌≡◌, None};
-ghost use Rattle.ob_core.specs.Accounts.{owed_by};
+ghost use Rattle.ob_core.specs.World.{owed_by};
 ghost use Rattle.ob_core.specs.declared.lane_step.LaneStep.TheVariants.{Subtract};
 ghost use Rattle.ob_lanes.specs.Calls.{ChangesDebt};
 

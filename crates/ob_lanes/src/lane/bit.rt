@@ -1,5 +1,5 @@
 ghost use Rattle.std.specs.Prelude.{◌≡◌, ◌&&◌, nat_lt, false, true, IsErr, OnErr, IsOkAnd};
-ghost use Rattle.ob_core.specs.Bits.{is_set};
+ghost use Rattle.ob_core.specs.World.{is_set};
 ghost use Rattle.ob_core.specs.Step.{is_held};
 ghost use Rattle.ob_lanes.specs.Calls.{IsBit, bit_step};
 

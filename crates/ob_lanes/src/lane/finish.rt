@@ -1,6 +1,6 @@
 ghost use Rattle.std.specs.Prelude.{◌≡◌, ℕ, ◌<◌, ◌≤◌, false, IfOk, IsOk, IsErrAnd};
 ghost use Rattle.std.specs.Int.{bit_at};
-ghost use Rattle.ob_core.specs.Bits.{is_set};
+ghost use Rattle.ob_core.specs.World.{is_set};
 ghost use Rattle.ob_lanes.specs.RunningLane.{EndsRun, ShowsHeld};
 
 use super::Lane;

@@ -1,6 +1,6 @@
 //! Seats that are cut in two and made one.
 ghost use Rattle.std.specs.Prelude.{◌≡◌, [], None};
-ghost use Rattle.ob_core.specs.Parts.{IsFree};
+ghost use Rattle.ob_core.specs.Step.{IsFree};
 ghost use Rattle.ob_lanes.specs.Calls.{split_fault};
 ghost use Rattle.ob_lanes.specs.Inside.{kept_facts, given_facts, both_facts};
 ghost use Rattle.ob_lanes.specs.Told.{IsSeatOf, IsSameSeat};

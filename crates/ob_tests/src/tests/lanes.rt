@@ -7,7 +7,7 @@ mod meeting;
 mod splitting;
 
 ghost use Rattle.std.specs.Prelude.{◌≡◌, false, IfOk};
-ghost use Rattle.ob_core.specs.Bits.{is_set};
+ghost use Rattle.ob_core.specs.World.{is_set};
 
 use ob_lanes::{Lane, NoRoom, Words, lanes};
 use ob_types::WaterMark;

@@ -3,9 +3,8 @@ use Rattle.std.proofs.Common.{◌≡◌, ◌∙◌, ◌++◌, Bool, true, false,
 use Rattle.std.proofs.Common.{Err, IfOk, refl, ap, sym}
 use Rattle.std.specs.Prelude.{option_map}
 use Rattle.ob_types.specs.Marks.{Marks}
-use Rattle.ob_core.specs.Accounts.{sum_owed}
+use Rattle.ob_core.specs.World.{sum_owed, CoreState, WorldState, new_core}
 use Rattle.ob_core.specs.Turn.{core_after_all, core_after}
-use Rattle.ob_core.specs.World.{CoreState, WorldState, new_core}
 use Rattle.ob_core.specs.declared.ask.Turn.{Turn}
 use Rattle.ob_core.specs.declared.lane_start.LaneStart.{LaneStart}
 use Rattle.ob_cli.specs.Inside.{HasPlayed, core_once}

@@ -2,8 +2,7 @@ use Rattle.std.proofs.Common.{◌≡◌, ℕ, ◌+◌, ◌≤◌, [], ◌∷◌,
 use Rattle.std.specs.Int.{bit_at}
 use Rattle.std.proofs.lemmas.List.Elements.{All-cons, All-nil}
 use Rattle.std.proofs.lemmas.Nat.Bits.{bit_at-zero}
-use Rattle.ob_core.specs.Accounts.{IsWithinRoom}
-use Rattle.ob_core.specs.Bits.{AreAmong}
+use Rattle.ob_core.specs.World.{IsWithinRoom, AreAmong}
 use Rattle.ob_core.specs.Worked.{first_lane, second_lane}
 use Rattle.ob_core.specs.declared.lane.Lane.{Lane}
 use Rattle.ob_core.proofs.BitLemmas.{MakeUp-and}

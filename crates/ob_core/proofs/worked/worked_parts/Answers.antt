@@ -1,6 +1,6 @@
 use Rattle.std.proofs.Common.{◌≡◌, ℕ, w32, refl, arith}
 use Rattle.std.proofs.lemmas.Nat.Bits.{bit_at-zero}
-use Rattle.ob_core.specs.Parts.{AreParts}
+use Rattle.ob_core.specs.Step.{AreParts}
 use Rattle.ob_core.specs.Worked.{free_lane, second_lane}
 use Rattle.ob_core.proofs.BitLemmas.{MakeUp-and}
 use Rattle.ob_core.proofs.PartLemmas.{AreParts-cut}

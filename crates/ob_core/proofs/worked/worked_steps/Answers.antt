@@ -1,6 +1,6 @@
 use Rattle.std.proofs.Common.{◌≡◌, ◌≢◌, ℕ, refl, arith}
 use Rattle.std.specs.Int.{bit_at}
-use Rattle.ob_core.specs.Bits.{PutsBit}
+use Rattle.ob_core.specs.World.{PutsBit}
 use Rattle.ob_core.specs.Worked.{PutsBit1}
 use Rattle.ob_core.proofs.BitLemmas.{SetsBit-with_bit, ClearsBit-without_bit}
 use Rattle.ob_core.proofs.worked.worked_steps.Goals as goal

@@ -4,16 +4,14 @@ use Rattle.std.specs.Int.{bit_at}
 use Rattle.std.specs.List.{All, AllPairs, slice_get}
 use Rattle.std.proofs.lemmas.List.{append-nil, same_from_push}
 use Rattle.atomic_table.specs.Seated.{TableId}
-use Rattle.ob_core.specs.World.{CoreState, one_lane}
-use Rattle.ob_core.specs.Step.{value_found}
-use Rattle.ob_core.specs.Accounts.{owed_by}
+use Rattle.ob_core.specs.World.{CoreState, one_lane, owed_by}
+use Rattle.ob_core.specs.Step.{value_found, spent_lane}
 use Rattle.ob_core.specs.declared.lane.Lane.{Lane}
 use Rattle.ob_core.specs.declared.lane_step.LaneStep.TheVariants.{Load}
 use Rattle.ob_core.proofs.AccountsLemmas.{total-le-room, total-le-outside, shown-held}
 use Rattle.ob_lanes.specs.Run.{one_step, Leads, own_steps, names_in, BeginsWith}
 use Rattle.ob_lanes.specs.declared.facts.Move.{Move}
 use Rattle.ob_lanes.specs.declared.facts.Move.TheVariants.{Steps, Divides, Merges}
-use Rattle.ob_core.specs.Parts.{spent_lane}
 use Rattle.ob_lanes.specs.declared.facts.Ended.{Ended}
 use Rattle.ob_lanes.specs.Worked.{joining, second_half}
 use Rattle.ob_lanes.specs.Worked.{grant, half, met, with_bits, lone, bit_2_run, first_run, has_set, shows_bit_2}

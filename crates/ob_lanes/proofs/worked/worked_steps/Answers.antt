@@ -3,7 +3,7 @@ use Rattle.std.specs.List.{sum_by}
 use Rattle.std.proofs.lemmas.List.Elements.{All-head}
 use Rattle.std.proofs.lemmas.Nat.Bits.{bit_at-lt}
 use Rattle.ob_types.specs.declared.reply.Change.TheVariants.{Unwritable}
-use Rattle.ob_core.specs.Bits.{with_bit}
+use Rattle.ob_core.specs.World.{with_bit}
 use Rattle.ob_core.specs.Step.{change_found}
 use Rattle.ob_core.specs.declared.lane_step.LaneStep.TheVariants.{SetBit}
 use Rattle.ob_core.proofs.BitLemmas.{MakeUp-and}

@@ -1,7 +1,7 @@
 use Rattle.std.proofs.Common.{◌≡◌, ◌≤◌, ◌%◌, ◌+◌, ◌++◌, ℕ, List, [], None, refl, ap, arith}
 use Rattle.std.specs.List.{sum_by}
 use Rattle.ob_types.specs.Marks.{total_half}
-use Rattle.ob_core.specs.Accounts.{owed_by}
+use Rattle.ob_core.specs.World.{owed_by}
 use Rattle.ob_core.specs.declared.lane_step.LaneStep.TheVariants.{Load}
 use Rattle.ob_lanes.specs.Calls.{IsTotalRead}
 use Rattle.ob_lanes.specs.Run.{one_step}

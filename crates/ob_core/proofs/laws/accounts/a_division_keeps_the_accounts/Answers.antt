@@ -1,5 +1,5 @@
 use Rattle.std.proofs.Common.{sym, subst}
-use Rattle.ob_core.specs.Accounts.{AccountsHold}
+use Rattle.ob_core.specs.World.{AccountsHold}
 use Rattle.ob_core.proofs.PartLemmas.{AccountsHold-division}
 use Rattle.ob_core.proofs.laws.accounts.a_division_keeps_the_accounts.Goals as goal
 

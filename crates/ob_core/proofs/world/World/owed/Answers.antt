@@ -1,5 +1,5 @@
 use Rattle.std.proofs.Common.{ap, arith}
-use Rattle.ob_core.specs.Accounts.{sum_owed}
+use Rattle.ob_core.specs.World.{sum_owed}
 use Rattle.ob_core.specs.Inside.{core_of}
 use Rattle.ob_core.proofs.SoundLemmas.{sum_owed-fits}
 use Rattle.ob_core.proofs.world.World.owed.Goals as goal

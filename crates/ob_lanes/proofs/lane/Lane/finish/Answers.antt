@@ -1,5 +1,5 @@
 use Rattle.std.proofs.Common.{◌≡◌, ◌≤◌, sym, ap, ◌∙◌, arith}
-use Rattle.ob_core.specs.Parts.{IsFree}
+use Rattle.ob_core.specs.Step.{IsFree}
 use Rattle.ob_lanes.proofs.Ends.{none_left, mark_is_clear, held_shown, foreign_clear, runs}
 use Rattle.ob_lanes.proofs.lane.Lane.finish.Goals as goal
 
