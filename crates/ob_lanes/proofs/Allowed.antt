@@ -16,10 +16,9 @@ use Rattle.ob_core.specs.declared.lane_step.LaneStep.TheVariants.{Add, Subtract,
 use Rattle.ob_core.proofs.AccountsLemmas.{owed_by-le-total, total-le-outside, shown-held}
 use Rattle.ob_core.proofs.BitLemmas.{or-is-with_bit, and-is-without_bit}
 use Rattle.ob_lanes.specs.Inside.{AreWords, words_of}
-use Rattle.ob_lanes.specs.Ruled.{Ruled}
-use Rattle.ob_lanes.specs.RunningLane.{WordsValue}
-use Rattle.ob_lanes.specs.Told.{packed_after, Knows, MayMake, Told, ToldTry, ToldOfBit, IsCalm, Makes, MayExpect}
-use Rattle.ob_lanes.specs.Told.{PackedTold, MakesOrReads}
+use Rattle.ob_lanes.specs.Ruled.{Ruled, packed_after, Knows, MayMake, Told, ToldTry, ToldOfBit, IsCalm, Makes}
+use Rattle.ob_lanes.specs.Ruled.{MayExpect, PackedTold, MakesOrReads}
+use Rattle.ob_lanes.specs.Run.{WordsValue}
 use Rattle.ob_lanes.specs.declared.facts.Facts.{Facts}
 use Rattle.ob_lanes.specs.declared.words.Words.TheInside.{Inside as WordsInside}
 use Rattle.ob_lanes.proofs.Calm.{clear_after_run, sum_calm, rest_calm}

@@ -14,7 +14,7 @@ use Rattle.ob_core.proofs.AccountsLemmas.{total-le-room}
 use Rattle.ob_core.proofs.BitLemmas.{SetsBit-with_bit, ClearsBit-without_bit}
 use Rattle.ob_core.proofs.StepLemmas.{is_held-above, zero-clear}
 use Rattle.ob_lanes.specs.Run.{IsMove, Leads}
-use Rattle.ob_lanes.specs.Told.{packed_after}
+use Rattle.ob_lanes.specs.Ruled.{packed_after}
 use Rattle.ob_lanes.specs.declared.facts.Move.{Move}
 use Rattle.ob_lanes.specs.declared.facts.Move.TheVariants.{Steps, Divides, Merges}
 use Rattle.ob_lanes.proofs.KeptAccounts.{accounts_after_run}

@@ -7,7 +7,7 @@ use Rattle.ob_types.specs.Marks.{word_half, total_half}
 use Rattle.ob_core.specs.World.{is_set, Grant}
 use Rattle.ob_core.specs.declared.lane.Lane.{Lane}
 use Rattle.ob_core.specs.Step.{IsFree}
-use Rattle.ob_lanes.specs.RunningLane.{EndsRun, EndedAt, EndedIn, RunningLane, ShowsHeld}
+use Rattle.ob_lanes.specs.Run.{EndsRun, EndedAt, EndedIn, RunningLane, ShowsHeld}
 use Rattle.ob_lanes.specs.Ruled.{HasEnded}
 use Rattle.std.proofs.lemmas.List.Elements.{All-weaker}
 use Rattle.ob_lanes.specs.Inside.{IsEnd}

@@ -16,10 +16,8 @@ use Rattle.ob_core.specs.declared.lane.Lane.{Lane}
 use Rattle.ob_core.specs.declared.lane_step.LaneStep.{LaneStep}
 use Rattle.ob_core.proofs.AccountsLemmas.{AccountsHold-step, total-le-room}
 use Rattle.ob_core.proofs.FoundLemmas.{word_half-packed, total_half-packed}
-use Rattle.ob_lanes.specs.Ruled.{Ruled, HaveEnded, HasRun, core_of}
-use Rattle.ob_lanes.specs.Run.{BeginsWithAll, facts_after}
-use Rattle.ob_lanes.specs.RunningLane.{IsInRun, Sees}
-use Rattle.ob_lanes.specs.Told.{packed_after, Told, PackedTold, FactsSee}
+use Rattle.ob_lanes.specs.Ruled.{Ruled, HaveEnded, HasRun, core_of, packed_after, Told, PackedTold, FactsSee}
+use Rattle.ob_lanes.specs.Run.{BeginsWithAll, facts_after, IsInRun, Sees}
 use Rattle.ob_lanes.specs.declared.facts.Facts.{Facts}
 use Rattle.ob_lanes.specs.declared.facts.Made.{Made}
 use Rattle.ob_lanes.specs.declared.facts.Move.{Move}

@@ -10,7 +10,7 @@ use Rattle.ob_core.specs.declared.lane_step.LaneStep.TheVariants.{Load}
 use Rattle.ob_lanes.specs.Calls.{AreReads}
 use Rattle.ob_lanes.specs.Inside.{KeepsRest, IsTrying, SeatTries, HasTried}
 use Rattle.ob_lanes.specs.Run.{BeginsWithAll, one_step}
-use Rattle.ob_lanes.specs.Told.{Knows, Told, ToldTry, MayExpect, Makes, MakesOrReads}
+use Rattle.ob_lanes.specs.Ruled.{Knows, Told, ToldTry, MayExpect, Makes, MakesOrReads}
 use Rattle.ob_lanes.specs.declared.facts.Facts.{Facts}
 use Rattle.ob_lanes.specs.declared.facts.Made.{Made}
 use Rattle.ob_lanes.specs.declared.facts.Move.{Move}

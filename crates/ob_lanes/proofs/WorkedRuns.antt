@@ -9,8 +9,7 @@ use Rattle.ob_core.specs.declared.lane_step.LaneStep.TheVariants.{Add, SetBit, L
 use Rattle.ob_core.specs.Worked.{free_lane}
 use Rattle.std.proofs.lemmas.List.Elements.{All-nil}
 use Rattle.std.proofs.lemmas.Nat.Bits.{bit_at-zero}
-use Rattle.ob_lanes.specs.Run.{BeginsWith, BeginsWithAll, one_step, Leads}
-use Rattle.ob_lanes.specs.RunningLane.{IsInRun, Sees}
+use Rattle.ob_lanes.specs.Run.{BeginsWith, BeginsWithAll, one_step, Leads, IsInRun, Sees}
 use Rattle.ob_lanes.specs.declared.facts.Made.{Made}
 use Rattle.ob_lanes.specs.declared.facts.Move.{Move}
 use Rattle.ob_lanes.specs.declared.facts.Move.TheVariants.{Steps}

@@ -11,8 +11,7 @@ use Rattle.ob_core.specs.Step.{IsFree, change_found, lane_after}
 use Rattle.ob_core.specs.declared.lane.Lane.{Lane}
 use Rattle.ob_core.specs.declared.lane_step.LaneStep.{LaneStep}
 use Rattle.ob_core.specs.declared.lane_step.LaneStep.TheVariants.{Load, SetBit, ClearBit}
-use Rattle.ob_lanes.specs.Run.{one_step}
-use Rattle.ob_lanes.specs.RunningLane.{RunningLane, IsSameLane, SeesStep, ShowsHeld, room_outside}
+use Rattle.ob_lanes.specs.Run.{one_step, RunningLane, IsSameLane, SeesStep, ShowsHeld, room_outside}
 use Rattle.ob_lanes.specs.declared.facts.Made.{Made}
 use Rattle.ob_lanes.specs.declared.fault.SplitFault.{SplitFault}
 use Rattle.ob_lanes.specs.declared.fault.SplitFault.TheVariants.{NoRoom, NotHeld}

@@ -11,10 +11,8 @@ use Rattle.ob_core.specs.Step.{spent_lane, lane_after}
 use Rattle.ob_core.specs.declared.lane.Lane.{Lane}
 use Rattle.ob_core.specs.declared.lane_step.LaneStep.{LaneStep}
 use Rattle.ob_lanes.specs.Calls.{AreReads}
-use Rattle.ob_lanes.specs.Ruled.{Ruled}
-use Rattle.ob_lanes.specs.Run.{first_facts, BeginsWithAll, one_step}
-use Rattle.ob_lanes.specs.RunningLane.{RunningLane, WordsValue}
-use Rattle.ob_lanes.specs.Told.{MayExpect, Knows, FactsSee, IsSameSeat}
+use Rattle.ob_lanes.specs.Ruled.{Ruled, MayExpect, Knows, FactsSee, IsSameSeat}
+use Rattle.ob_lanes.specs.Run.{first_facts, BeginsWithAll, one_step, RunningLane, WordsValue}
 use Rattle.ob_lanes.specs.declared.facts.Facts.{Facts}
 use Rattle.ob_lanes.specs.declared.facts.Made.{Made}
 use Rattle.ob_lanes.specs.declared.facts.Move.{Move}

@@ -2,6 +2,4 @@ pub mod Calls
 pub mod Inside
 pub mod Ruled
 pub mod Run
-pub mod RunningLane
-pub mod Told
 pub mod Worked

@@ -10,9 +10,9 @@ use Rattle.ob_core.specs.declared.lane.Lane.{Lane}
 use Rattle.ob_core.specs.declared.lane_step.LaneStep.TheVariants.{Add, SetBit, Load}
 use Rattle.ob_lanes.specs.Calls.{IsBit, ChangesDebt, debt_of, IsJoined, HasMade, IsTotalRead, IsWordRead, split_fault}
 use Rattle.ob_lanes.specs.Calls.{IsSplit}
-use Rattle.ob_lanes.specs.Run.{BeginsWith, changes_of, TakeTurns, one_step, Leads, own_steps}
-use Rattle.ob_lanes.specs.RunningLane.{IsInRun, EndedIn, EndsRun, RunningLane, ShowsHeld}
-use Rattle.ob_lanes.specs.Told.{Knows, ToldOfBit}
+use Rattle.ob_lanes.specs.Run.{BeginsWith, changes_of, TakeTurns, one_step, Leads, own_steps, IsInRun, EndedIn, EndsRun}
+use Rattle.ob_lanes.specs.Run.{RunningLane, ShowsHeld}
+use Rattle.ob_lanes.specs.Ruled.{Knows, ToldOfBit}
 use Rattle.ob_lanes.specs.declared.facts.Ended.{Ended}
 use Rattle.ob_lanes.specs.declared.facts.Made.{Made}
 use Rattle.ob_lanes.specs.declared.facts.Move.{Move}

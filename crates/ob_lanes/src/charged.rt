@@ -1,6 +1,6 @@
 ghost use Rattle.ob_lanes.specs.Calls.{debt_of};
 ghost use Rattle.ob_lanes.specs.Inside.{view_of, IsBetweenCalls};
-ghost use Rattle.ob_lanes.specs.RunningLane.{RunningLane};
+ghost use Rattle.ob_lanes.specs.Run.{RunningLane};
 
 mod discharge;
 mod looks;

@@ -19,7 +19,7 @@ pub struct Lane {
 }
 
 impl Model for Lane {
-    ghost use Rattle.ob_lanes.specs.RunningLane.{RunningLane};
+    ghost use Rattle.ob_lanes.specs.Run.{RunningLane};
 
     ghost Value = { RunningLane };
 

@@ -2,7 +2,7 @@
 ghost use Rattle.std.specs.Prelude.{◌+◌, ◌^◌};
 ghost use Rattle.std.specs.Int.{bit_not, w64};
 ghost use Rattle.ob_core.specs.declared.lane_step.LaneStep.TheVariants as step;
-ghost use Rattle.ob_lanes.specs.Told.{Told, ToldAdding, ToldSubtracting, ToldOfBit};
+ghost use Rattle.ob_lanes.specs.Ruled.{Told, ToldAdding, ToldSubtracting, ToldOfBit};
 
 use crate::facts::Facts;
 use atomic_table::Play;

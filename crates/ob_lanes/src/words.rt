@@ -1,5 +1,5 @@
 ghost use Rattle.ob_lanes.specs.Inside.{words_of, AreWords};
-ghost use Rattle.ob_lanes.specs.RunningLane.{WordsValue};
+ghost use Rattle.ob_lanes.specs.Run.{WordsValue};
 
 mod end;
 mod seats;

@@ -10,7 +10,7 @@ use Rattle.ob_history.specs.declared.receipt.Receipt.{Receipt}
 use Rattle.ob_history.specs.declared.record.Record.{Record}
 use Rattle.ob_shared.specs.Calls.{Handed, Maker, one_more, ShareValue}
 use Rattle.ob_transport.specs.Sent.{Sent, sent_in, Content}
-use Rattle.ob_lanes.specs.RunningLane.{RunningLane, WordsValue}
+use Rattle.ob_lanes.specs.Run.{RunningLane, WordsValue}
 use Rattle.ob_pool.specs.Drive.{ComesOfWork, room_of}
 use Rattle.ob_pool.specs.Inside.{AreCounted}
 use Rattle.ob_pool.specs.Report.{is_failing}

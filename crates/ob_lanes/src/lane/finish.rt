@@ -1,7 +1,7 @@
 ghost use Rattle.std.specs.Prelude.{◌≡◌, ℕ, ◌<◌, ◌≤◌, false, IfOk, IsOk, IsErrAnd};
 ghost use Rattle.std.specs.Int.{bit_at};
 ghost use Rattle.ob_core.specs.World.{is_set};
-ghost use Rattle.ob_lanes.specs.RunningLane.{EndsRun, ShowsHeld};
+ghost use Rattle.ob_lanes.specs.Run.{EndsRun, ShowsHeld};
 
 use super::Lane;
 use crate::both::{total_of, word_of};

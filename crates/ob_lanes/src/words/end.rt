@@ -1,5 +1,5 @@
 ghost use Rattle.ob_lanes.specs.Inside.{IsEnd};
-ghost use Rattle.ob_lanes.specs.Told.{IsSeatOf};
+ghost use Rattle.ob_lanes.specs.Ruled.{IsSeatOf};
 ghost use Rattle.std.specs.Prelude.{◌<◌, ◌^◌};
 
 use super::Words;

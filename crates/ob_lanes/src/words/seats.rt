@@ -3,7 +3,7 @@ ghost use Rattle.std.specs.Prelude.{◌≡◌, [], None};
 ghost use Rattle.ob_core.specs.Step.{IsFree};
 ghost use Rattle.ob_lanes.specs.Calls.{split_fault};
 ghost use Rattle.ob_lanes.specs.Inside.{kept_facts, given_facts, both_facts};
-ghost use Rattle.ob_lanes.specs.Told.{IsSeatOf, IsSameSeat};
+ghost use Rattle.ob_lanes.specs.Ruled.{IsSeatOf, IsSameSeat};
 
 use super::Words;
 use crate::facts::Facts;

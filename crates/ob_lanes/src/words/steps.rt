@@ -2,7 +2,7 @@
 ghost use Rattle.std.specs.Prelude.{◌≡◌, ◌<◌, ◌+◌, ◌≤◌, ◌↔◌, IsTrue};
 ghost use Rattle.ob_types.specs.Marks.{total_half};
 ghost use Rattle.ob_core.specs.declared.lane_step.LaneStep.TheVariants.{Add, Subtract, SetBit, ClearBit, Load};
-ghost use Rattle.ob_lanes.specs.Told.{IsCalm, MayExpect, MayMake, Makes, MakesOrReads};
+ghost use Rattle.ob_lanes.specs.Ruled.{IsCalm, MayExpect, MayMake, Makes, MakesOrReads};
 
 use super::Words;
 use crate::both::{HALF, after_add, after_subtract};

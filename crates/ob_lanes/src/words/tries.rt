@@ -7,7 +7,7 @@ ghost use Rattle.std.specs.Prelude.{◌≡◌, ◌<◌, ◌+◌, ◌≤◌, IfSo
 ghost use Rattle.ob_types.specs.Marks.{total_half};
 ghost use Rattle.ob_core.specs.declared.lane_step.LaneStep.TheVariants.{Add, Load, Subtract};
 ghost use Rattle.ob_lanes.specs.Inside.{HasTried, SeatTries};
-ghost use Rattle.ob_lanes.specs.Told.{IsSameSeat, MayExpect, MayMake};
+ghost use Rattle.ob_lanes.specs.Ruled.{IsSameSeat, MayExpect, MayMake};
 
 use super::Words;
 use crate::facts::Facts;

@@ -7,8 +7,7 @@ use Rattle.ob_core.specs.Step.{change_found}
 use Rattle.ob_core.specs.declared.lane_step.LaneStep.{LaneStep}
 use Rattle.ob_core.specs.declared.lane_step.LaneStep.TheVariants.{Add, Load}
 use Rattle.ob_lanes.specs.Calls.{AreReads, ChangesDebt, IsOneStep, debt_of, are_held}
-use Rattle.ob_lanes.specs.Run.{one_step}
-use Rattle.ob_lanes.specs.RunningLane.{RunningLane}
+use Rattle.ob_lanes.specs.Run.{one_step, RunningLane}
 use Rattle.ob_lanes.specs.Worked.{runs_alone, runs_beside}
 use Rattle.ob_lanes.specs.declared.facts.Made.{Made}
 use Rattle.ob_lanes.specs.declared.facts.Move.{Move}

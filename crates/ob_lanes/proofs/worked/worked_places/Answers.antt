@@ -9,7 +9,7 @@ use Rattle.ob_core.specs.Step.{value_found, spent_lane}
 use Rattle.ob_core.specs.declared.lane.Lane.{Lane}
 use Rattle.ob_core.specs.declared.lane_step.LaneStep.TheVariants.{Load}
 use Rattle.ob_core.proofs.AccountsLemmas.{total-le-room, total-le-outside, shown-held}
-use Rattle.ob_lanes.specs.Run.{one_step, Leads, own_steps, names_in, BeginsWith}
+use Rattle.ob_lanes.specs.Run.{one_step, Leads, own_steps, names_in, BeginsWith, EndedAt, EndedIn, EndsRun}
 use Rattle.ob_lanes.specs.declared.facts.Move.{Move}
 use Rattle.ob_lanes.specs.declared.facts.Move.TheVariants.{Steps, Divides, Merges}
 use Rattle.ob_lanes.specs.declared.facts.Ended.{Ended}
@@ -20,7 +20,6 @@ use Rattle.ob_lanes.proofs.KeptAccounts.{accounts_after_run, not_opened}
 use Rattle.ob_lanes.proofs.WorkedRuns.{alone, set_in_run, met_in_run, way, whole, joined_in_run, begins_none}
 use Rattle.ob_lanes.proofs.Runs.{begins_itself, begins_one}
 use Rattle.std.proofs.lemmas.List.Elements.{All-cons, All-head, All-tail, All-nil}
-use Rattle.ob_lanes.specs.RunningLane.{EndedAt, EndedIn, EndsRun}
 use Rattle.ob_lanes.proofs.worked.worked_places.Goals as goal
 
 -- both halves owe 60

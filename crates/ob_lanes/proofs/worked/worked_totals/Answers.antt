@@ -4,8 +4,7 @@ use Rattle.ob_types.specs.Marks.{total_half}
 use Rattle.ob_core.specs.World.{owed_by}
 use Rattle.ob_core.specs.declared.lane_step.LaneStep.TheVariants.{Load}
 use Rattle.ob_lanes.specs.Calls.{IsTotalRead}
-use Rattle.ob_lanes.specs.Run.{one_step}
-use Rattle.ob_lanes.specs.RunningLane.{RunningLane, room_outside, Sees}
+use Rattle.ob_lanes.specs.Run.{one_step, RunningLane, room_outside, Sees}
 use Rattle.ob_lanes.specs.Worked.{has_added, runs_alone, shows_mark}
 use Rattle.ob_lanes.specs.declared.facts.Made.{Made}
 use Rattle.ob_lanes.specs.declared.facts.Move.{Move}

@@ -1,7 +1,7 @@
 use Rattle.std.proofs.Common.{◌/◌, ap, arith, rules}
 use Rattle.std.specs.Prelude.{vec_len}
 use Rattle.std.proofs.lemmas.Result.{IfOk-weaker}
-use Rattle.ob_lanes.specs.RunningLane.{WordsValue}
+use Rattle.ob_lanes.specs.Run.{WordsValue}
 use Rattle.ob_pool.specs.Threads.{IsNumbered, IsRoomy, room_for}
 use Rattle.ob_pool.proofs.Histories.TrueCounts.{both_counted}
 use Rattle.ob_pool.proofs.Jobs.Halves.{back_some, both_handed_done, front_some, half_within, parts_alike, parts_done}
