@@ -20,9 +20,7 @@ use Rattle.ob_types.specs.declared.reply.Reply.{Reply}
 use Rattle.ob_seq.specs.Looks.{gathered_after}
 use Rattle.ob_seq.specs.State.{writes_in}
 use Rattle.ob_seq.specs.declared.look.Look.{Look}
-use Rattle.ob_history.specs.Call.{call_answer, history_after}
-use Rattle.ob_history.specs.History.{History, new_history, accepted_commands}
-use Rattle.ob_history.specs.Seen.{seen_now}
+use Rattle.ob_history.specs.History.{call_answer, history_after, History, new_history, accepted_commands, seen_now}
 use Rattle.ob_history.specs.declared.receipt.Receipt.{Receipt}
 use Rattle.ob_script.specs.Reading.{any_32, any_flag, any_index, any_64, any_block, any_mark, LineKind, Table, row, row_if, Grammar}
 use Rattle.ob_script.specs.Reading.{line_reading}

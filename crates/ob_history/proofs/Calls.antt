@@ -7,9 +7,8 @@ use Rattle.std.proofs.lemmas.List.{get_or_push, length_push}
 use Rattle.ob_types.specs.declared.command.Command.{Command}
 use Rattle.ob_types.specs.declared.refusal.Refusal.{Refusal}
 use Rattle.ob_types.specs.declared.refusal.Refusal.TheVariants.{HistoryFull}
-use Rattle.ob_history.specs.Call.{IsCall, call_answer, history_after, is_full, next_record, with_record}
-use Rattle.ob_history.specs.History.{IsBeginning, History, IsBounded, IsLegal}
-use Rattle.ob_history.specs.Receipts.{receipt_of}
+use Rattle.ob_history.specs.History.{IsCall, call_answer, history_after, is_full, next_record, with_record, IsBeginning}
+use Rattle.ob_history.specs.History.{History, IsBounded, IsLegal, receipt_of}
 use Rattle.ob_history.specs.declared.receipt.Receipt.{Receipt}
 use Rattle.ob_history.specs.declared.record.Record.{Record}
 use Rattle.ob_history.proofs.Beginnings.{begins_itself}

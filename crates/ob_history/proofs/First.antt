@@ -6,8 +6,7 @@ use Rattle.std.proofs.lemmas.Bool.{cases_eq}
 use Rattle.std.proofs.lemmas.List.{get_or-take, get_or_read, length-take-le, take_all, take_more}
 use Rattle.std.proofs.lemmas.List.Elements.{All-push, All-take}
 use Rattle.std.proofs.lemmas.List.Quantifiers.{all_pairs_push}
-use Rattle.ob_history.specs.History.{IsFirstBreak}
-use Rattle.ob_history.specs.Receipts.{AreOwn, IsReceiptIn}
+use Rattle.ob_history.specs.History.{IsFirstBreak, AreOwn, IsReceiptIn}
 use Rattle.ob_history.specs.declared.receipt.Receipt.{Receipt}
 use Rattle.ob_history.specs.declared.record.Record.{Record}
 

@@ -4,8 +4,7 @@ use Rattle.std.specs.List.{slice_get}
 use Rattle.std.proofs.lemmas.List.{length-append, take_all, take-append-le}
 use Rattle.ob_seq.specs.Looks.{look_after}
 use Rattle.ob_seq.specs.Rows.{Settings}
-use Rattle.ob_history.specs.History.{accepted_commands, History}
-use Rattle.ob_history.specs.Seen.{IsSeenIn, seen_now}
+use Rattle.ob_history.specs.History.{accepted_commands, History, IsSeenIn, seen_now}
 use Rattle.ob_history.specs.declared.record.Record.{Record}
 use Rattle.ob_history.specs.declared.seen.Seen.{Seen}
 

@@ -9,7 +9,7 @@ use Rattle.std.proofs.lemmas.List.{length_push}
 use Rattle.std.proofs.lemmas.List.Elements.{All-cons, All-head, All-nil, All-tail}
 use Rattle.std.proofs.lemmas.List.Filters.{length-filter_both}
 use Rattle.std.proofs.lemmas.List.Sums.{sum_by-cons}
-use Rattle.ob_history.specs.Receipts.{AreOwn, HoldAll, Holding, records_of, IsReceiptIn, record_of}
+use Rattle.ob_history.specs.History.{AreOwn, HoldAll, Holding, records_of, IsReceiptIn, record_of}
 use Rattle.ob_history.specs.declared.receipt.Receipt.{Receipt}
 use Rattle.ob_history.specs.declared.record.Record.{Record}
 use Rattle.ob_history.proofs.Histories.{found_behind}

@@ -5,7 +5,7 @@ use Rattle.std.specs.Prelude.{◌==◌, ◌≢◌, slice_index_or}
 use Rattle.std.proofs.lemmas.Bool.{eq-eqb, ne_eqb}
 use Rattle.std.proofs.lemmas.List.{map-append}
 use Rattle.std.proofs.lemmas.List.Elements.{filter-append}
-use Rattle.ob_history.specs.Receipts.{records_of, receipt_of}
+use Rattle.ob_history.specs.History.{records_of, receipt_of}
 use Rattle.ob_history.specs.declared.receipt.Receipt.{Receipt}
 use Rattle.ob_history.specs.declared.record.Record.{Record}
 use Rattle.ob_history.proofs.Histories.{found_at}

@@ -3,8 +3,7 @@ use Rattle.std.proofs.Common.{◌≡◌, ◌≢◌, ◌<◌, ℕ, false, get_or,
 use Rattle.std.proofs.lemmas.Bool.{ne_eqb}
 use Rattle.std.specs.Vec.{vec_len}
 use Rattle.ob_types.specs.declared.command.Command.{Command}
-use Rattle.ob_history.specs.Call.{history_after, is_full, next_record}
-use Rattle.ob_history.specs.History.{History}
+use Rattle.ob_history.specs.History.{history_after, is_full, next_record, History}
 use Rattle.ob_history.specs.Inside.{history_of}
 use Rattle.ob_history.specs.declared.record.Record.{Record}
 use Rattle.ob_history.specs.declared.recorded.Recorded.TheInside.{Inside}

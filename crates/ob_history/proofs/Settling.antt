@@ -4,8 +4,7 @@ use Rattle.std.proofs.Math.Seq.{take-append_seam}
 use Rattle.ob_seq.specs.Rows.{Settings}
 use Rattle.ob_seq.specs.Answer.{answer_to}
 use Rattle.ob_seq.specs.Pending.{settled_along, settled_by}
-use Rattle.ob_history.specs.History.{accepted_commands, IsLegal}
-use Rattle.ob_history.specs.Seen.{settlements_in}
+use Rattle.ob_history.specs.History.{accepted_commands, IsLegal, settlements_in}
 use Rattle.ob_history.specs.declared.record.Record.{Record}
 use Rattle.ob_history.proofs.Histories.{accepted_with_next, command_of, found_behind}
 

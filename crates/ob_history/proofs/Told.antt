@@ -21,8 +21,7 @@ use Rattle.ob_seq.specs.Rows.{Settings}
 use Rattle.ob_seq.specs.Pending.{settled_by}
 use Rattle.ob_seq.proofs.Rows.Accepting.{among_are_accepted}
 use Rattle.ob_seq.proofs.Rows.Told.{settled_is_told}
-use Rattle.ob_history.specs.History.{accepted_commands, IsLegal}
-use Rattle.ob_history.specs.Seen.{settlements_in, settles}
+use Rattle.ob_history.specs.History.{accepted_commands, IsLegal, settlements_in, settles}
 use Rattle.ob_history.specs.declared.record.Record.{Record}
 use Rattle.ob_history.proofs.Histories.{accepted_with_next, command_of, found_behind}
 use Rattle.ob_history.proofs.Settling.{settlements_of_legal}

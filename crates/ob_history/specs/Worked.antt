@@ -13,10 +13,9 @@ use Rattle.ob_types.specs.declared.reply.Answer.TheVariants.{Id, Count, Yes, Don
 use Rattle.ob_types.specs.declared.reply.Change.TheVariants.{Unwritable}
 use Rattle.ob_seq.specs.Rows.{Settings}
 use Rattle.ob_seq.specs.Worked.{empty_look}
-use Rattle.ob_history.specs.Call.{IsCovered, call_answer, history_after}
-use Rattle.ob_history.specs.History.{accepted_commands, IsFirstBreak, History, IsLegal}
-use Rattle.ob_history.specs.Receipts.{AreOwn, Holding, HoldAll, records_of, receipt_of}
-use Rattle.ob_history.specs.Seen.{glance_after, seen_now, settlements_in, settles}
+use Rattle.ob_history.specs.History.{IsCovered, call_answer, history_after, accepted_commands, IsFirstBreak, History}
+use Rattle.ob_history.specs.History.{IsLegal, AreOwn, Holding, HoldAll, records_of, receipt_of, glance_after, seen_now}
+use Rattle.ob_history.specs.History.{settlements_in, settles}
 use Rattle.ob_history.specs.declared.record.Record.{Record}
 
 -- Netty's marks and sizes

@@ -1,6 +1,5 @@
 ghost use Rattle.std.specs.Prelude.{◌≡◌, ℕ};
-ghost use Rattle.ob_history.specs.Call.{IsCall, IsRecording};
-ghost use Rattle.ob_history.specs.History.{History, IsReservation, IsBufferOf};
+ghost use Rattle.ob_history.specs.History.{IsCall, IsRecording, History, IsReservation, IsBufferOf};
 
 use crate::receipt::Receipt;
 use crate::recorded::Recorded;

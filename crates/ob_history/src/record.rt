@@ -2,7 +2,7 @@ ghost use Rattle.std.specs.Prelude.{◌≡◌, ◌≤◌, false, length, IsOk, I
 ghost use Rattle.ob_types.specs.Limits.{inline_settlements};
 ghost use Rattle.ob_types.specs.Traits.{writes_block};
 ghost use Rattle.ob_seq.specs.Pending.{settled_by};
-ghost use Rattle.ob_history.specs.Receipts.{receipt_of};
+ghost use Rattle.ob_history.specs.History.{receipt_of};
 
 use crate::answer;
 use crate::receipt::{Receipt, copied};

@@ -9,8 +9,7 @@ use Rattle.ob_types.specs.declared.command.Command.{Command}
 use Rattle.ob_types.specs.declared.estimate.Estimate.{Estimate}
 use Rattle.ob_types.specs.declared.promise.Outcome.{Outcome}
 use Rattle.ob_types.specs.declared.promise.PromiseId.{PromiseId}
-use Rattle.ob_history.specs.History.{IsBeginning}
-use Rattle.ob_history.specs.Receipts.{record_of}
+use Rattle.ob_history.specs.History.{IsBeginning, record_of}
 use Rattle.ob_history.specs.declared.receipt.Receipt.{Receipt}
 use Rattle.ob_history.specs.declared.record.Record.{Record}
 use Rattle.ob_shared.specs.Calls.{HandsInAll, IsAsOpened, Opened, Handed, made_by}

@@ -11,9 +11,7 @@ use Rattle.ob_types.specs.declared.command.Command.{Command}
 use Rattle.ob_types.specs.declared.promise.Outcome.{Outcome}
 use Rattle.ob_core.specs.World.{is_set}
 use Rattle.ob_seq.specs.Pending.{times_settled}
-use Rattle.ob_history.specs.History.{accepted_commands, is_accepted, History, IsLegal}
-use Rattle.ob_history.specs.Receipts.{records_of}
-use Rattle.ob_history.specs.Seen.{settlements_in}
+use Rattle.ob_history.specs.History.{accepted_commands, is_accepted, History, IsLegal, records_of, settlements_in}
 use Rattle.ob_history.specs.declared.record.Record.{Record}
 use Rattle.ob_transport.specs.Pass.{HasTaken}
 use Rattle.ob_transport.specs.Sent.{Content}

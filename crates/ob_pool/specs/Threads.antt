@@ -5,7 +5,7 @@ use Rattle.std.specs.Prelude.{Vec, count_by}
 use Rattle.ob_types.specs.declared.command.Command.{Command}
 use Rattle.ob_types.specs.declared.estimate.Estimate.{Estimate}
 use Rattle.ob_seq.specs.Rows.{Settings}
-use Rattle.ob_history.specs.Receipts.{record_of}
+use Rattle.ob_history.specs.History.{record_of}
 use Rattle.ob_history.specs.declared.receipt.Receipt.{Receipt}
 use Rattle.ob_history.specs.declared.record.Record.{Record}
 use Rattle.ob_shared.specs.Calls.{Handed, Maker, one_more, ShareValue}

@@ -1,9 +1,7 @@
 -- What a caller has to hand in after a call whose receipt it keeps.
 use Rattle.std.proofs.Common.{◌≡◌, ℕ, false, List, [], ◌∷◌, ◌++◌, Ok, ap, ◌∙◌}
 use Rattle.ob_types.specs.declared.command.Command.{Command}
-use Rattle.ob_history.specs.Call.{IsCall, is_full, next_record}
-use Rattle.ob_history.specs.History.{History}
-use Rattle.ob_history.specs.Receipts.{receipt_of}
+use Rattle.ob_history.specs.History.{IsCall, is_full, next_record, History, receipt_of}
 use Rattle.ob_history.specs.declared.receipt.Receipt.{Receipt}
 use Rattle.ob_history.proofs.Calls.{called_with_place}
 use Rattle.ob_shared.specs.Calls.{with_record_of, Handed, Maker, one_more, ShareValue, share_after, sight_of}

@@ -9,9 +9,7 @@ use Rattle.std.proofs.lemmas.Option.{slice_get_read}
 use Rattle.std.proofs.lemmas.List.Elements.{All-take, All-map, All-head, All-tail}
 use Rattle.std.proofs.lemmas.List.Sums.{sum_by-cons}
 use Rattle.ob_seq.specs.Rows.{Settings}
-use Rattle.ob_history.specs.History.{IsFirstBreak}
-use Rattle.ob_history.specs.Receipts.{AreOwn, Holding, IsReceiptIn}
-use Rattle.ob_history.specs.Seen.{IsSeenIn}
+use Rattle.ob_history.specs.History.{IsFirstBreak, AreOwn, Holding, IsReceiptIn, IsSeenIn}
 use Rattle.ob_history.specs.declared.record.Record.{Record}
 use Rattle.ob_history.specs.declared.receipt.Receipt.{Receipt}
 use Rattle.ob_history.proofs.First.{first_against}

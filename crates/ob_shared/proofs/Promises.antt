@@ -3,7 +3,7 @@ use Rattle.std.proofs.Common.{◌≡◌, ℕ, true, List, Some, subst}
 use Rattle.std.specs.Prelude.{slice_get}
 use Rattle.std.proofs.lemmas.Option.{get_or_from_slice_get, slice_get_within}
 use Rattle.ob_types.specs.declared.promise.PromiseId.{PromiseId}
-use Rattle.ob_history.specs.Seen.{settles}
+use Rattle.ob_history.specs.History.{settles}
 use Rattle.ob_history.specs.declared.record.Record.{Record}
 use Rattle.ob_shared.specs.Calls.{IsCopiedFreely, IsToldFreely}
 

@@ -7,8 +7,7 @@ use lib.ListN.{get_elem?}
 use Rattle.atomic_table.specs.Table.{State, Allows, Splits, Joins, keeps}
 use Rattle.atomic_table.proofs.Lists.{at_set, at_snoc, set_else}
 use Rattle.ob_seq.specs.Rows.{Settings}
-use Rattle.ob_history.specs.History.{IsBeginning, IsLegal}
-use Rattle.ob_history.specs.Seen.{glance_after}
+use Rattle.ob_history.specs.History.{IsBeginning, IsLegal, glance_after}
 use Rattle.ob_history.specs.declared.record.Record.{Record}
 use Rattle.ob_history.proofs.Beginnings.{begins_itself, begins_further, none_begin}
 use Rattle.ob_shared.specs.Published.{Knows, Learns, Reads, Fits, Ruled, publishing, reading}

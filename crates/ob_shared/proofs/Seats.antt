@@ -1,8 +1,7 @@
 -- What is known of a seat stays so.
 use Rattle.std.proofs.Common.{◌≡◌, ℕ, List, [], sym, ap, ◌∙◌, subst}
 use Rattle.atomic_table.specs.declared.shared.Seat.{Seat}
-use Rattle.ob_history.specs.History.{IsLegal}
-use Rattle.ob_history.specs.Seen.{glance_after}
+use Rattle.ob_history.specs.History.{IsLegal, glance_after}
 use Rattle.ob_history.specs.declared.record.Record.{Record}
 use Rattle.ob_shared.specs.Calls.{Opened, packed_glance}
 use Rattle.ob_shared.specs.Published.{Knows, publishing, reading, HasPublished, IsReader}

@@ -19,10 +19,9 @@ use Rattle.ob_seq.specs.Looks.{look_after}
 use Rattle.ob_seq.specs.Pending.{settled_by}
 use Rattle.ob_seq.specs.Rows.{Settings}
 use Rattle.ob_seq.specs.State.{writes_in}
-use Rattle.ob_history.specs.Call.{is_full, next_record}
-use Rattle.ob_history.specs.History.{History, IsLegal, accepted_commands, IsBeginning, IsFirstBreak}
-use Rattle.ob_history.specs.Receipts.{receipt_of, IsReceiptIn, record_of, AreOwn, records_of}
-use Rattle.ob_history.specs.Seen.{glance_after, settlements_in, settles, IsSeenIn}
+use Rattle.ob_history.specs.History.{is_full, next_record, History, IsLegal, accepted_commands, IsBeginning}
+use Rattle.ob_history.specs.History.{IsFirstBreak, receipt_of, IsReceiptIn, record_of, AreOwn, records_of, glance_after}
+use Rattle.ob_history.specs.History.{settlements_in, settles, IsSeenIn}
 use Rattle.ob_history.specs.declared.glance.Glance.{Glance}
 use Rattle.ob_history.specs.declared.receipt.Receipt.{Receipt}
 use Rattle.ob_history.specs.declared.record.Record.{Record}

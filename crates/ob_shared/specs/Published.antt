@@ -5,8 +5,7 @@ use mathlib.Core.Option.{some}
 use lib.ListN.{get_elem?}
 use Rattle.atomic_table.specs.Table.{State, Me}
 use Rattle.ob_seq.specs.Rows.{Settings}
-use Rattle.ob_history.specs.History.{IsBeginning, IsLegal}
-use Rattle.ob_history.specs.Seen.{glance_after}
+use Rattle.ob_history.specs.History.{IsBeginning, IsLegal, glance_after}
 use Rattle.ob_history.specs.declared.record.Record.{Record}
 use Rattle.ob_shared.specs.Calls.{packed_glance, Opened}
 use Rattle.ob_shared.specs.declared.rule.View.{View}

@@ -11,8 +11,7 @@ use Rattle.ob_types.specs.declared.reply.Answer.{Answer}
 use Rattle.ob_types.specs.declared.reply.Answer.TheVariants.{Id, Count, Yes}
 use Rattle.ob_seq.specs.Rows.{Settings}
 use Rattle.ob_seq.specs.Worked.{empty_look}
-use Rattle.ob_history.specs.History.{IsBeginning}
-use Rattle.ob_history.specs.Receipts.{receipt_of}
+use Rattle.ob_history.specs.History.{IsBeginning, receipt_of}
 use Rattle.ob_history.specs.declared.record.Record.{Record}
 use Rattle.ob_history.specs.declared.receipt.Receipt.{Receipt}
 use Rattle.ob_history.specs.declared.seen.Seen.{Seen}

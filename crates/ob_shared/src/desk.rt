@@ -1,8 +1,7 @@
 ghost use Rattle.std.specs.Prelude.{◌≡◌, ◌<◌, OnOk, OnErr, vec_capacity, vec_len};
 ghost use Rattle.std.specs.Sync.Mutex.{mutex_guard_value};
-ghost use Rattle.ob_history.specs.Call.{next_record};
-ghost use Rattle.ob_history.specs.Receipts.{KeepsReceipt};
-ghost use Rattle.ob_history.specs.Words.{IsBeginning, IsCall, IsRecording, IsReservation, IsBufferOf, AreGivenSince, IsLookAt};
+ghost use Rattle.ob_history.specs.History.{next_record, KeepsReceipt, IsBeginning, IsCall, IsRecording, IsReservation};
+ghost use Rattle.ob_history.specs.History.{IsBufferOf, AreGivenSince, IsLookAt};
 ghost use Rattle.ob_shared.specs.Calls.{one_more, share_after, IsAsOpened};
 
 use crate::locked::Locked;

@@ -1,5 +1,5 @@
 ghost use Rattle.std.specs.Prelude.{◌≡◌, ◌<◌, ◌≤◌, [], IfOk, IsOkUnless, OnOk};
-ghost use Rattle.ob_history.specs.Seen.{glance_after};
+ghost use Rattle.ob_history.specs.History.{glance_after};
 ghost use Rattle.ob_shared.specs.Calls.{IsNameOf, new_shares};
 
 use crate::callers::Callers;

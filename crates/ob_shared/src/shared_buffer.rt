@@ -3,7 +3,7 @@ ghost use Rattle.std.specs.List.{All};
 ghost use Rattle.std.specs.Sync.Mutex.{mutex_guard_value};
 ghost use Rattle.ob_types.specs.declared.promise.PromiseId.{PromiseId};
 ghost use Rattle.ob_seq.specs.Pending.{times_settled};
-ghost use Rattle.ob_history.specs.Words.{IsBeginning, settlements_in};
+ghost use Rattle.ob_history.specs.History.{IsBeginning, settlements_in};
 ghost use Rattle.ob_shared.specs.Calls.{IsKept, IsToldFreely, IsUnknown, IsUnsettled, TellsOf, HandsInAll, StandsIn};
 ghost use Rattle.ob_shared.specs.Calls.{first_short, IsGivenBack, HasNoLooks, LacksShare, made_by, IsAsOpened};
 ghost use Rattle.ob_shared.specs.Calls.{IsCheckIn};

@@ -1,6 +1,5 @@
 ghost use Rattle.std.specs.Prelude.{◌≡◌, true, false, []};
-ghost use Rattle.ob_history.specs.History.{IsBeginning, IsLegal};
-ghost use Rattle.ob_history.specs.Seen.{glance_after};
+ghost use Rattle.ob_history.specs.History.{IsBeginning, IsLegal, glance_after};
 ghost use Rattle.ob_shared.specs.Published.{Reads, publishing, reading};
 ghost use Rattle.ob_shared.specs.Calls.{packed_glance, sight_of};
 

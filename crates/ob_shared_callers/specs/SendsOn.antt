@@ -2,8 +2,7 @@
 use Rattle.std.specs.Prelude.{◌≡◌, ◌<◌, ℕ, true, Result, Ok, Err, OnErr, OnOk}
 use Rattle.ob_types.specs.declared.command.Command.TheVariants.{FailFlushed, RemoveBytes}
 use Rattle.ob_types.specs.declared.refusal.Refusal.{Refusal}
-use Rattle.ob_history.specs.Call.{IsCall, IsRecording}
-use Rattle.ob_history.specs.History.{History}
+use Rattle.ob_history.specs.History.{IsCall, IsRecording, History}
 use Rattle.ob_history.specs.declared.receipt.Receipt.{Receipt}
 use Rattle.ob_transport.specs.Pass.{Drains, Standing}
 use Rattle.ob_transport.specs.declared.draining.Drained.{Drained}

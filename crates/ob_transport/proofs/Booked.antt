@@ -6,9 +6,8 @@ use Rattle.ob_types.specs.declared.command.Command.TheVariants.{RemoveBytes}
 use Rattle.ob_types.specs.declared.refusal.Refusal.{Refusal}
 use Rattle.ob_types.specs.declared.refusal.Refusal.TheVariants.{HistoryFull, NoMemory}
 use Rattle.ob_seq.specs.Answer.{are_accepted}
-use Rattle.ob_history.specs.Call.{IsCall, call_answer, history_after, is_full, next_record}
-use Rattle.ob_history.specs.History.{accepted_commands, History}
-use Rattle.ob_history.specs.Receipts.{receipt_of}
+use Rattle.ob_history.specs.History.{IsCall, call_answer, history_after, is_full, next_record, accepted_commands}
+use Rattle.ob_history.specs.History.{History, receipt_of}
 use Rattle.ob_history.specs.declared.receipt.Receipt.{Receipt}
 use Rattle.ob_transport.specs.Sent.{sent_bytes_in, unread_in}
 use Rattle.ob_transport.proofs.Passes.{removal_sends}

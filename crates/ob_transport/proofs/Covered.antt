@@ -14,8 +14,8 @@ use Rattle.ob_seq.specs.Effect.{progressed_row, rows_after, taken_row, with_fron
 use Rattle.ob_seq.specs.Rows.{is_in_line, Row, Settings}
 use Rattle.ob_seq.specs.Pending.{settled_after, settled_by}
 use Rattle.ob_seq.proofs.Rows.Along.{settlement_same, settlements_behind}
-use Rattle.ob_history.specs.Call.{IsCovered, history_after, is_full, next_record, with_record}
-use Rattle.ob_history.specs.History.{accepted_commands, History, LacksPlaces, with_reserved}
+use Rattle.ob_history.specs.History.{IsCovered, history_after, is_full, next_record, with_record, accepted_commands}
+use Rattle.ob_history.specs.History.{History, LacksPlaces, with_reserved}
 use Rattle.ob_transport.specs.Inside.{Given}
 use Rattle.ob_transport.specs.declared.fault.PassFault.{PassFault}
 use Rattle.ob_transport.specs.declared.fault.PassFault.TheVariants.{Sink, HistoryFull, NoMemory, Unbooked}

@@ -16,8 +16,7 @@ use Rattle.ob_seq.specs.Effect.{bytes_in}
 use Rattle.ob_seq.specs.Rows.{front, is_in_line, line, Row, unread_part}
 use Rattle.ob_seq.specs.Looks.{progress_of}
 use Rattle.ob_seq.proofs.Inside.Gathered.{gathered_first, length_of_concat}
-use Rattle.ob_history.specs.Call.{history_after, is_full}
-use Rattle.ob_history.specs.History.{accepted_commands, History, LacksPlaces}
+use Rattle.ob_history.specs.History.{history_after, is_full, accepted_commands, History, LacksPlaces}
 use Rattle.ob_transport.specs.Pass.{GrowAlike, GrowAlikeBut, IsBooked, IsPass, Clears, SendsBytes, SendsUnits}
 use Rattle.ob_transport.specs.Pass.{booked_units, ready, Standing, standing}
 use Rattle.ob_transport.specs.Sent.{front_bytes, units_at, unread_bytes, bytes_sent_by, units_sent_by, current_in}

@@ -11,8 +11,7 @@ use Rattle.ob_types.specs.declared.refusal.Refusal.{Refusal}
 use Rattle.ob_seq.specs.Answer.{answer_to, commands_after, first_refusal, reply_of, unless_refused}
 use Rattle.ob_seq.specs.Effect.{effect, rows_after}
 use Rattle.ob_seq.specs.Rows.{Row, Settings}
-use Rattle.ob_history.specs.Call.{history_after, is_full, next_record, with_record}
-use Rattle.ob_history.specs.History.{accepted_commands, History}
+use Rattle.ob_history.specs.History.{history_after, is_full, next_record, with_record, accepted_commands, History}
 use Rattle.ob_history.proofs.Histories.{accepted_with_next}
 use Rattle.ob_transport.specs.Sent.{bytes_sent_by, sent_bytes, sent_units, units_sent_by, Occasion, occasions_from}
 

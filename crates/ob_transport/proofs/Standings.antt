@@ -3,8 +3,7 @@ use Rattle.std.proofs.Common.{◌≡◌, ℕ, true, false, ap, ◌∙◌, cond, 
 use Rattle.std.proofs.lemmas.Bool.Decides.{nat_tests}
 use Rattle.ob_types.specs.declared.command.Command.{Command}
 use Rattle.ob_types.specs.declared.command.Command.TheVariants.{Remove, Progress}
-use Rattle.ob_history.specs.Call.{history_after}
-use Rattle.ob_history.specs.History.{History}
+use Rattle.ob_history.specs.History.{history_after, History}
 use Rattle.ob_transport.specs.Pass.{booked_units, standing}
 use Rattle.ob_transport.specs.Sent.{Content}
 

@@ -10,8 +10,7 @@ use Rattle.ob_types.specs.declared.message.Message.TheVariants.{Block, Region, O
 use Rattle.ob_seq.specs.Effect.{rows_after}
 use Rattle.ob_seq.specs.Looks.{current_after, progress_of, gathered_after}
 use Rattle.ob_seq.specs.Rows.{Settings, front}
-use Rattle.ob_history.specs.Call.{IsCovered, history_after, is_full}
-use Rattle.ob_history.specs.History.{History, LacksPlaces, with_reserved}
+use Rattle.ob_history.specs.History.{IsCovered, history_after, is_full, History, LacksPlaces, with_reserved}
 use Rattle.ob_transport.specs.Pass.{Clears, SendsBytes, SendsUnits, Standing}
 use Rattle.ob_transport.specs.Sent.{Script, current_in, gathered_in, progress_in, Asked, OfBytes, OfUnits}
 use Rattle.ob_transport.specs.declared.fault.Pass.{Pass}

@@ -7,8 +7,7 @@ use Rattle.ob_types.specs.declared.command.Command.TheVariants.{Remove, RemoveBy
 use Rattle.ob_types.specs.declared.message.Message.TheVariants.{Block, Region, Other}
 use Rattle.ob_types.specs.declared.refusal.Refusal.{Refusal}
 use Rattle.ob_types.specs.declared.refusal.Refusal.TheVariants as refusal
-use Rattle.ob_history.specs.Call.{IsCovered, history_after, is_full}
-use Rattle.ob_history.specs.History.{History, LacksPlaces, with_reserved}
+use Rattle.ob_history.specs.History.{IsCovered, history_after, is_full, History, LacksPlaces, with_reserved}
 use Rattle.ob_transport.specs.Sent.{current_in, gathered_in, progress_in, sent_bytes_in, sent_units_in, unread_in}
 use Rattle.ob_transport.specs.Sent.{Content, with_failure, with_more_bytes, with_more_units}
 use Rattle.ob_transport.specs.declared.draining.Drained.{Drained}

@@ -2,7 +2,7 @@
 
 ghost use Rattle.std.specs.Prelude.{◌≡◌, ◌++◌, List, ℕ, length, OnOk};
 ghost use Rattle.ob_types.specs.declared.command.Command.TheVariants.{RemoveBytes};
-ghost use Rattle.ob_history.specs.Call.{IsCall};
+ghost use Rattle.ob_history.specs.History.{IsCall};
 ghost use Rattle.ob_transport.specs.Inside.{Given, Readied};
 ghost use Rattle.ob_transport.specs.Sent.{sent_bytes_in, unread_in};
 

@@ -4,7 +4,7 @@ ghost use Rattle.std.specs.List.{flat_map};
 ghost use Rattle.std.specs.Prelude.{◌≡◌, ℕ, true, List, [], Result, Err, sum_by};
 ghost use Rattle.ob_seq.specs.Answer.{are_accepted};
 ghost use Rattle.ob_seq.specs.Rows.{Settings};
-ghost use Rattle.ob_history.specs.Words.{accepted_commands, IsLegal};
+ghost use Rattle.ob_history.specs.History.{accepted_commands, IsLegal};
 ghost use Rattle.ob_history.specs.declared.record.Record.{Record};
 ghost use Rattle.ob_transport.specs.Pass.{GrowAlike, GrowAlikeBut, IsBooked, IsPass, Standing};
 ghost use Rattle.ob_transport.specs.Sent.{sent_bytes, sent_in, sent_units};

@@ -1,7 +1,5 @@
 ghost use Rattle.std.specs.Prelude.{◌≡◌, true, not, ◌+◌, ◌++◌, ◌%◌, [], ◌∷◌, IsOk, IfOk, OnOk, string_bytes};
-ghost use Rattle.ob_history.specs.Call.{history_after, is_full};
-ghost use Rattle.ob_history.specs.History.{accepted_commands};
-ghost use Rattle.ob_history.specs.Seen.{seen_now};
+ghost use Rattle.ob_history.specs.History.{history_after, is_full, accepted_commands, seen_now};
 ghost use Rattle.ob_cli.specs.Run.{first_history, block_write, call_text, history_after_line, history_after_lines};
 ghost use Rattle.ob_cli.specs.Run.{line_trace, run_grammar, run_texts};
 ghost use Rattle.ob_seq.specs.State.{writes_in};

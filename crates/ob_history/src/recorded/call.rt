@@ -1,6 +1,5 @@
 ghost use Rattle.std.specs.Prelude.{◌≡◌, ◌<◌, vec_capacity, vec_len};
-ghost use Rattle.ob_history.specs.Call.{IsCall, IsRecording, next_record};
-ghost use Rattle.ob_history.specs.Receipts.{KeepsReceipt};
+ghost use Rattle.ob_history.specs.History.{IsCall, IsRecording, next_record, KeepsReceipt};
 
 use crate::answer;
 use crate::receipt::Receipt;

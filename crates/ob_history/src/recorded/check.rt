@@ -1,6 +1,5 @@
 ghost use Rattle.std.specs.Prelude.{◌≡◌, ◌<◌, ◌↔◌, List, length, IsTrue, IfOk, IsOk, IsOkUnless};
-ghost use Rattle.ob_history.specs.Receipts.{IsReceiptIn, record_of};
-ghost use Rattle.ob_history.specs.Seen.{IsSeenIn};
+ghost use Rattle.ob_history.specs.History.{IsReceiptIn, record_of, IsSeenIn};
 
 use crate::answer;
 use crate::receipt::Receipt;

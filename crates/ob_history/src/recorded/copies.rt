@@ -2,7 +2,7 @@ ghost use Rattle.std.specs.Prelude.{◌≡◌, ◌≤◌, List, length, IsOk, If
 ghost use Rattle.ob_types.specs.declared.command.Command.{Command};
 ghost use Rattle.ob_seq.specs.Pending.{settled_by};
 ghost use Rattle.ob_history.specs.Inside.{IsSmall, SettlesAtMost};
-ghost use Rattle.ob_history.specs.Receipts.{receipt_of};
+ghost use Rattle.ob_history.specs.History.{receipt_of};
 
 use crate::answer;
 use crate::receipt::Receipt;

@@ -1,7 +1,7 @@
 ghost use Rattle.std.specs.List.{All};
 ghost use Rattle.std.specs.Prelude.{◌≡◌, ◌-◌, ◌<◌, ◌↔◌, length, take, IfOk, IfSome, IsNone, IsOk, IsOkUnless, IsTrue};
 ghost use Rattle.std.specs.Prelude.{slice_index_or};
-ghost use Rattle.ob_history.specs.Words.{IsFirstBreak, AreOwn, IsReceiptIn, IsSeenIn};
+ghost use Rattle.ob_history.specs.History.{IsFirstBreak, AreOwn, IsReceiptIn, IsSeenIn};
 ghost use Rattle.ob_history.specs.declared.receipt.Receipt.{Receipt};
 
 use crate::receipt::Receipt;

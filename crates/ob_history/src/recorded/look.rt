@@ -1,5 +1,5 @@
 ghost use Rattle.std.specs.Prelude.{◌≡◌};
-ghost use Rattle.ob_history.specs.Seen.{glance_after, IsLookAt};
+ghost use Rattle.ob_history.specs.History.{glance_after, IsLookAt};
 
 use crate::glance::Glance;
 use crate::recorded::Recorded;

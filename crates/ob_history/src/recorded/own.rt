@@ -1,5 +1,5 @@
 ghost use Rattle.std.specs.Prelude.{◌≡◌, map, IfOk};
-ghost use Rattle.ob_history.specs.Receipts.{AreGivenSince, records_of, receipt_of};
+ghost use Rattle.ob_history.specs.History.{AreGivenSince, records_of, receipt_of};
 
 use crate::receipt::Receipt;
 use crate::record::Record;

@@ -5,7 +5,7 @@ ghost use Rattle.ob_types.specs.declared.command.Command.{Command};
 ghost use Rattle.ob_seq.specs.Looks.{look_after};
 ghost use Rattle.ob_seq.specs.Pending.{StandsFor};
 ghost use Rattle.ob_history.specs.Inside.{IsReplay};
-ghost use Rattle.ob_history.specs.Words.{accepted_commands, IsLegal, IsSeenIn};
+ghost use Rattle.ob_history.specs.History.{accepted_commands, IsLegal, IsSeenIn};
 
 use crate::answer;
 use crate::record::Record;

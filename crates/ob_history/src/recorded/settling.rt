@@ -5,7 +5,7 @@ ghost use Rattle.ob_types.specs.declared.promise.Outcome.{Outcome};
 ghost use Rattle.ob_types.specs.declared.promise.PromiseState.TheVariants.{Settled};
 ghost use Rattle.ob_seq.specs.Looks.{promise_after};
 ghost use Rattle.ob_seq.specs.Pending.{settled_by};
-ghost use Rattle.ob_history.specs.Words.{accepted_commands, settles};
+ghost use Rattle.ob_history.specs.History.{accepted_commands, settles};
 
 use crate::record::Record;
 use crate::recorded::Recorded;

@@ -8,10 +8,8 @@ use Rattle.ob_types.specs.Traits.{is_write}
 use Rattle.ob_types.specs.declared.command.Command.{Command}
 use Rattle.ob_types.specs.declared.promise.Outcome.{Outcome}
 use Rattle.ob_types.specs.declared.promise.PromiseId.{PromiseId}
-use Rattle.ob_history.specs.History.{accepted_commands, is_accepted, History, IsBounded}
-use Rattle.ob_history.specs.Seen.{settlements_in}
+use Rattle.ob_history.specs.History.{accepted_commands, is_accepted, History, IsBounded, settlements_in, record_of}
 use Rattle.ob_history.specs.declared.record.Record.{Record}
-use Rattle.ob_history.specs.Receipts.{record_of}
 use Rattle.ob_history.specs.declared.receipt.Receipt.{Receipt}
 use Rattle.ob_pool.specs.Inside.{DoFit, counts_in, counts_of, plus}
 use Rattle.ob_types.specs.Replies.{is_cancelled, is_failed, is_success}

@@ -9,7 +9,7 @@ use Rattle.std.proofs.Common.{length-append}
 use Rattle.std.proofs.lemmas.List.Concat.{flat_map-cons}
 use Rattle.std.proofs.lemmas.List.Elements.{All-contains, All-head, All-tail, Contains-push}
 use Rattle.std.proofs.lemmas.List.Sums.{count_by-le-length, length-filter, sum_by-cons, sum_by_push}
-use Rattle.ob_history.specs.Receipts.{records_of, record_of}
+use Rattle.ob_history.specs.History.{records_of, record_of}
 use Rattle.ob_history.specs.declared.record.Record.{Record}
 use Rattle.ob_shared.specs.Calls.{HandsInAll, Handed, made_by}
 use Rattle.ob_pool.specs.Inside.{AreNumbered, HaveHandedIn, counts_in, counts_of, plus, receipts_in}

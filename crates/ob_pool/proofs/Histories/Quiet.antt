@@ -8,8 +8,7 @@ use Rattle.std.proofs.lemmas.List.Elements.{All-cons, All-head, All-nil, All-tai
 use Rattle.ob_types.specs.declared.command.Command.{Command}
 use Rattle.ob_seq.specs.Effect.{rows_after}
 use Rattle.ob_seq.specs.Rows.{Settings}
-use Rattle.ob_history.specs.History.{accepted_commands}
-use Rattle.ob_history.specs.Receipts.{records_of}
+use Rattle.ob_history.specs.History.{accepted_commands, records_of}
 use Rattle.ob_history.specs.declared.record.Record.{Record}
 use Rattle.ob_transport.specs.Sent.{Sent, nothing, sent_by, sent_in}
 use Rattle.ob_pool.specs.Report.{AreCarriedOut, commands_of}

@@ -17,8 +17,7 @@ use Rattle.ob_seq.specs.Looks.{promise_after}
 use Rattle.ob_seq.specs.Rows.{Settings}
 use Rattle.ob_seq.specs.Pending.{settled_by, times_settled}
 use Rattle.ob_seq.specs.State.{writes_in}
-use Rattle.ob_history.specs.History.{accepted_commands, History, IsBounded, most_records, IsLegal}
-use Rattle.ob_history.specs.Seen.{settlements_in}
+use Rattle.ob_history.specs.History.{accepted_commands, History, IsBounded, most_records, IsLegal, settlements_in}
 use Rattle.ob_types.specs.Traits.{is_write}
 use Rattle.ob_pool.proofs.Histories.AcceptedCounts.{accepted_at_most}
 use Rattle.ob_history.specs.declared.record.Record.{Record}

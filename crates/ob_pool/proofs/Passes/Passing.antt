@@ -12,8 +12,7 @@ use Rattle.ob_types.specs.declared.promise.Cause.{Cause}
 use Rattle.ob_types.specs.declared.message.Message.{Message}
 use Rattle.ob_types.specs.declared.message.Message.TheVariants.{Block, Region, Other}
 use Rattle.ob_types.specs.declared.refusal.Refusal.{Refusal}
-use Rattle.ob_history.specs.Call.{IsRecording, history_after, is_full, next_record, with_record}
-use Rattle.ob_history.specs.History.{History}
+use Rattle.ob_history.specs.History.{IsRecording, history_after, is_full, next_record, with_record, History}
 use Rattle.ob_history.specs.declared.record.Record.{Record}
 use Rattle.ob_transport.specs.Pass.{GrowAlike, IsPass, Clears, SendsBytes, SendsUnits, ready, Standing, standing}
 use Rattle.ob_transport.specs.Sent.{current_in, gathered_in, progress_in, sent_bytes_in, sent_units_in, Content}

@@ -13,8 +13,8 @@ use Rattle.std.proofs.lemmas.List.Sums.{sum_by-append, sum_by-cons}
 use Rattle.std.proofs.lemmas.Result.{IfOk-at_ok}
 use Rattle.ob_seq.specs.Effect.{rows_after}
 use Rattle.ob_seq.specs.Rows.{Settings}
-use Rattle.ob_history.specs.History.{accepted_commands, IsBeginning, History, IsLegal}
-use Rattle.ob_history.specs.Receipts.{receipts_since, records_of, receipt_of, record_of}
+use Rattle.ob_history.specs.History.{accepted_commands, IsBeginning, History, IsLegal, receipts_since, records_of}
+use Rattle.ob_history.specs.History.{receipt_of, record_of}
 use Rattle.ob_history.specs.declared.receipt.Receipt.{Receipt}
 use Rattle.ob_history.specs.declared.record.Record.{Record}
 use Rattle.ob_shared.specs.Calls.{Handed, Maker, ShareValue}

@@ -4,9 +4,7 @@ use Rattle.ob_types.specs.declared.command.Command.{Command}
 use Rattle.ob_types.specs.declared.refusal.Refusal.{Refusal}
 use Rattle.ob_types.specs.declared.reply.Reply.{Reply}
 use Rattle.ob_seq.specs.declared.look.Look.{Look}
-use Rattle.ob_history.specs.Call.{history_after, is_full}
-use Rattle.ob_history.specs.History.{History}
-use Rattle.ob_history.specs.Seen.{seen_now}
+use Rattle.ob_history.specs.History.{history_after, is_full, History, seen_now}
 use Rattle.ob_history.specs.declared.record.Record.{Record}
 use Rattle.ob_history.proofs.Calls.{answer_with_place, record_at_place}
 use Rattle.ob_cli.specs.Run.{told_after, told_by, command_text, block_write, call_text, history_after_line}

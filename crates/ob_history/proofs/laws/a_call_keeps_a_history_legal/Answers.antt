@@ -1,5 +1,5 @@
 use Rattle.std.proofs.Common.{refl}
-use Rattle.ob_history.specs.Call.{next_record}
+use Rattle.ob_history.specs.History.{next_record}
 use Rattle.ob_history.proofs.Calls.{begins_after, bounded_after, legal_after, limit_after, settings_after}
 use Rattle.ob_history.proofs.Histories.{accepted_with_next}
 use Rattle.ob_history.proofs.laws.a_call_keeps_a_history_legal.Goals as goal

@@ -1,6 +1,6 @@
 use Rattle.std.proofs.Common.{rules, ◌≡◌, [], ◌∷◌, refl, ap, arith}
 use Rattle.std.specs.Prelude.{Some, slice_get}
-use Rattle.ob_history.specs.Receipts.{AreOwn, receipt_of}
+use Rattle.ob_history.specs.History.{AreOwn, receipt_of}
 use Rattle.ob_history.specs.Worked.{flush_of, refused_cancel, removal, worked_records, write_at}
 use Rattle.ob_history.specs.declared.record.Record.{Record}
 use Rattle.ob_history.proofs.Counts.{counts_differ}

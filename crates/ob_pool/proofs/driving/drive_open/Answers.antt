@@ -5,8 +5,7 @@ use Rattle.std.proofs.lemmas.Result.{IfErr-weaker, IfOk-weaker}
 use Rattle.ob_types.specs.Marks.{Marks}
 use Rattle.ob_core.specs.World.{Grant}
 use Rattle.ob_seq.specs.Rows.{Settings}
-use Rattle.ob_history.specs.History.{IsBeginning, IsLegal}
-use Rattle.ob_history.specs.Receipts.{records_of}
+use Rattle.ob_history.specs.History.{IsBeginning, IsLegal, records_of}
 use Rattle.ob_shared.specs.Calls.{HandsInAll, Handed, ShareValue, Opened}
 use Rattle.ob_transport.specs.Sent.{sent_bytes, sent_units}
 use Rattle.ob_pool.specs.Drive.{ComesOfWork}

@@ -1,8 +1,6 @@
 use Rattle.std.proofs.Common.{rules, ◌≡◌, [], ◌∷◌, inl, inr, refl, ap, arith}
 use Rattle.std.specs.List.{All}
-use Rattle.ob_history.specs.History.{IsFirstBreak}
-use Rattle.ob_history.specs.Receipts.{AreOwn, IsReceiptIn, receipt_of, record_of}
-use Rattle.ob_history.specs.Seen.{IsSeenIn}
+use Rattle.ob_history.specs.History.{IsFirstBreak, AreOwn, IsReceiptIn, receipt_of, record_of, IsSeenIn}
 use Rattle.ob_history.specs.declared.record.Record.{Record}
 use Rattle.ob_shared.specs.Calls.{StandsIn, Handed}
 use Rattle.ob_shared.specs.Worked.{closed, flushed, flusher, look, records, removed, settings, whole_writer, writer, written}

@@ -1,10 +1,8 @@
 use Rattle.std.proofs.Common.{length, Result, Ok, sym, ap, ◌∙◌, arith, rules}
 use Rattle.ob_types.specs.declared.refusal.Refusal.{Refusal}
 use Rattle.ob_seq.specs.Pending.{settled_after, settled_by}
-use Rattle.ob_history.specs.Call.{call_answer, next_record}
-use Rattle.ob_history.specs.History.{accepted_commands}
+use Rattle.ob_history.specs.History.{call_answer, next_record, accepted_commands, receipt_of}
 use Rattle.ob_history.specs.Inside.{history_of}
-use Rattle.ob_history.specs.Receipts.{receipt_of}
 use Rattle.ob_history.specs.declared.receipt.Receipt.{Receipt}
 use Rattle.ob_history.specs.declared.record.Record.{Record}
 use Rattle.ob_history.proofs.Calls.{answer_with_place}

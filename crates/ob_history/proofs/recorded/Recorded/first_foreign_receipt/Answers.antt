@@ -1,5 +1,5 @@
 use Rattle.std.proofs.Common.{refl, arith}
-use Rattle.ob_history.specs.Receipts.{AreOwn}
+use Rattle.ob_history.specs.History.{AreOwn}
 use Rattle.ob_history.proofs.First.{never_foreign, own_more, own_no_more, up_to_end}
 use Rattle.ob_history.proofs.recorded.Recorded.first_foreign_receipt.Goals as goal
 use Rattle.ob_history.proofs.recorded.Recorded.first_foreign_receipt.Goals.{then-receipt-caller-via-then-receipt-caller}

@@ -1,5 +1,5 @@
 use Rattle.std.proofs.Common.{take}
-use Rattle.ob_history.specs.Receipts.{AreOwn}
+use Rattle.ob_history.specs.History.{AreOwn}
 use Rattle.ob_history.proofs.recorded.Recorded.first_foreign_receipt.Given as goal
 
 abbrev pub invariant-loop-index : goal.invariant-loop-index

@@ -2,7 +2,7 @@ use Rattle.std.specs.List.{All}
 use Rattle.std.specs.Prelude.{IsTrue}
 use Rattle.std.proofs.Common.{refl, arith}
 use Rattle.std.proofs.lemmas.List.Elements.{All-more}
-use Rattle.ob_history.specs.Seen.{IsSeenIn}
+use Rattle.ob_history.specs.History.{IsSeenIn}
 use Rattle.ob_history.proofs.First.{first_against, never_against, up_to_end}
 use Rattle.ob_history.proofs.recorded.Recorded.first_foreign_seen.Goals as goal
 

@@ -1,7 +1,7 @@
 use Rattle.std.proofs.Common.{take}
 use Rattle.std.specs.List.{All}
 use Rattle.ob_history.specs.Inside.{IsReplay}
-use Rattle.ob_history.specs.Seen.{IsSeenIn}
+use Rattle.ob_history.specs.History.{IsSeenIn}
 use Rattle.ob_history.proofs.recorded.Recorded.first_foreign_seen.Given as goal
 
 abbrev pub invariant-loop-index : goal.invariant-loop-index

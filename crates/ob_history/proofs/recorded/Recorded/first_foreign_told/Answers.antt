@@ -1,6 +1,6 @@
 use Rattle.std.specs.List.{All}
 use Rattle.std.proofs.Common.{refl, arith, subst, sym}
-use Rattle.ob_history.specs.Receipts.{IsReceiptIn}
+use Rattle.ob_history.specs.History.{IsReceiptIn}
 use Rattle.ob_history.proofs.First.{first_against, never_against, up_to_end}
 use Rattle.ob_history.proofs.recorded.Recorded.first_foreign_told.Goals as goal
 

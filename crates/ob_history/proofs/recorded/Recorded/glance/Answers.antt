@@ -1,9 +1,8 @@
 use Rattle.std.proofs.Common.{◌≡◌, ap, ◌∙◌}
 use Rattle.ob_seq.specs.Looks.{look_after}
 use Rattle.ob_seq.specs.declared.look.Look.{Look}
-use Rattle.ob_history.specs.History.{accepted_commands, History}
+use Rattle.ob_history.specs.History.{accepted_commands, History, glance_after}
 use Rattle.ob_history.specs.Inside.{settings_of}
-use Rattle.ob_history.specs.Seen.{glance_after}
 use Rattle.ob_history.specs.declared.glance.Glance.{Glance}
 use Rattle.ob_history.proofs.recorded.Recorded.glance.Goals as goal
 

@@ -1,7 +1,5 @@
 use Rattle.std.proofs.Common.{[], ◌∷◌, ◌++◌, ap, ◌∙◌, rules}
-use Rattle.ob_history.specs.Call.{next_record}
-use Rattle.ob_history.specs.History.{History}
-use Rattle.ob_history.specs.Receipts.{receipt_of}
+use Rattle.ob_history.specs.History.{next_record, History, receipt_of}
 use Rattle.ob_history.specs.declared.receipt.Receipt.{Receipt}
 use Rattle.ob_history.proofs.Placing.{placed}
 use Rattle.ob_history.proofs.recorded.Recorded.keep.Goals as goal

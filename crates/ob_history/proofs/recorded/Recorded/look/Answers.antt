@@ -1,8 +1,7 @@
 use Rattle.std.proofs.Common.{◌≡◌, length, ap, ◌∙◌, rules}
 use Rattle.ob_seq.specs.Looks.{look_after}
-use Rattle.ob_history.specs.History.{accepted_commands}
+use Rattle.ob_history.specs.History.{accepted_commands, seen_now}
 use Rattle.ob_history.specs.Inside.{history_of, settings_of}
-use Rattle.ob_history.specs.Seen.{seen_now}
 use Rattle.ob_history.specs.declared.seen.Seen.{Seen}
 use Rattle.ob_history.proofs.recorded.Recorded.look.Goals as goal
 

@@ -6,8 +6,7 @@ use Rattle.std.proofs.Common.{◌≡◌, true, false, [], ◌∷◌, ◌++◌, l
 use Rattle.std.proofs.lemmas.Bool.{ne_eqb}
 use Rattle.ob_seq.specs.Answer.{answer_to, commands_after, commands_with}
 use Rattle.ob_seq.specs.Pending.{StandsFor}
-use Rattle.ob_history.specs.Call.{history_after, is_full, with_record}
-use Rattle.ob_history.specs.History.{accepted_commands, IsLegal}
+use Rattle.ob_history.specs.History.{history_after, is_full, with_record, accepted_commands, IsLegal}
 use Rattle.ob_history.specs.Inside.{history_of, settings_of}
 use Rattle.ob_history.proofs.Calls.{after_with_place}
 use Rattle.ob_history.proofs.Rooms.{IsSound-more_room}

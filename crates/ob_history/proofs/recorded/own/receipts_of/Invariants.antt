@@ -1,5 +1,5 @@
 use Rattle.std.proofs.Common.{◌≡◌, map, take}
-use Rattle.ob_history.specs.Receipts.{records_of, receipt_of}
+use Rattle.ob_history.specs.History.{records_of, receipt_of}
 use Rattle.ob_history.proofs.recorded.own.receipts_of.Given as goal
 
 abbrev pub invariant-loop-one : goal.invariant-loop-one

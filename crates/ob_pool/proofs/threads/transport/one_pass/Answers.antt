@@ -1,8 +1,7 @@
 use Rattle.std.proofs.Common.{◌≡◌, ◌++◌, Ok, ap, map, subst, sym, arith}
 use Rattle.std.proofs.lemmas.Result.{IfOk-at_ok}
 use Rattle.ob_seq.specs.Rows.{Settings}
-use Rattle.ob_history.specs.History.{IsLegal}
-use Rattle.ob_history.specs.Receipts.{receipt_of}
+use Rattle.ob_history.specs.History.{IsLegal, receipt_of}
 use Rattle.ob_history.specs.declared.seen.Seen.{Seen}
 use Rattle.ob_shared.specs.Calls.{ShareValue}
 use Rattle.ob_pool.specs.Threads.{HasTakenOf}

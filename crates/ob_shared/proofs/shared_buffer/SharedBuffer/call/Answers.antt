@@ -2,8 +2,7 @@ use Rattle.std.proofs.Common.{◌≡◌, inr, List, [], ◌∷◌, ◌++◌, sym
 use Rattle.std.specs.Prelude.{Result, IsErrOf, OnErr}
 use Rattle.ob_types.specs.declared.refusal.Refusal.{Refusal}
 use Rattle.ob_types.specs.declared.refusal.Refusal.TheVariants.{NoMemory}
-use Rattle.ob_history.specs.Call.{next_record}
-use Rattle.ob_history.specs.History.{IsBeginning, History}
+use Rattle.ob_history.specs.History.{next_record, IsBeginning, History}
 use Rattle.ob_history.specs.declared.record.Record.{Record}
 use Rattle.ob_history.proofs.Beginnings.{begins_further}
 use Rattle.ob_history.proofs.Calls.{called_begins}

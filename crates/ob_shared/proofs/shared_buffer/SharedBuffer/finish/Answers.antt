@@ -1,8 +1,7 @@
 use Rattle.std.proofs.Common.{◌≡◌, ◌≤◌, ℕ, List, ◌++◌, append-nil, drop, length, map, take, Some, None, refl, sym, ap, ◌∙◌, subst, arith}
 use Rattle.std.specs.List.{All}
 use Rattle.std.proofs.lemmas.List.{drop_all, take_all}
-use Rattle.ob_history.specs.History.{IsBeginning, History}
-use Rattle.ob_history.specs.Seen.{settlements_in}
+use Rattle.ob_history.specs.History.{IsBeginning, History, settlements_in}
 use Rattle.ob_seq.specs.Pending.{times_settled}
 use Rattle.ob_shared.specs.Calls.{StandsIn, first_short, IsForeign, after_meeting, Handed}
 use Rattle.ob_shared.proofs.shared_buffer.SharedBuffer.finish.Goals as goal

@@ -1,7 +1,6 @@
 use Rattle.std.proofs.Common.{◌≡◌, List, [], sym, ap, ◌∙◌, subst, arith}
 use Rattle.ob_seq.specs.Rows.{Settings}
-use Rattle.ob_history.specs.History.{IsBeginning, IsLegal}
-use Rattle.ob_history.specs.Seen.{glance_after}
+use Rattle.ob_history.specs.History.{IsBeginning, IsLegal, glance_after}
 use Rattle.ob_history.specs.declared.record.Record.{Record}
 use Rattle.ob_shared.specs.Published.{publishing}
 use Rattle.ob_shared.specs.Calls.{packed_glance}

@@ -1,7 +1,5 @@
 use Rattle.std.proofs.Common.{◌≡◌, ◌∙◌, ◌<◌, List, Ok, ap, length, string_bytes, subst, sym}
-use Rattle.ob_history.specs.Call.{history_after, next_record}
-use Rattle.ob_history.specs.History.{History}
-use Rattle.ob_history.specs.Seen.{seen_now}
+use Rattle.ob_history.specs.History.{history_after, next_record, History, seen_now}
 use Rattle.ob_history.specs.declared.record.Record.{Record}
 use Rattle.ob_history.proofs.Calls.{record_at_place}
 use Rattle.ob_cli.specs.Run.{told_after}
