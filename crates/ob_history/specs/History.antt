@@ -211,28 +211,28 @@ abbrev pub history_after : History → ℕ → Command → History
 history_after history caller command =
     if is_full history then history else with_record history (next_record history caller command)
 
--- a call is covered if one is reserved, and its command is no write and settles at most four promises
-pub record IsCovered (history : History) (command : Command) : Type 0 where
+-- a call is assured if one is reserved, and its command is no write and settles at most four promises
+pub record IsAssured (history : History) (command : Command) : Type 0 where
   pub reserved : 0 < history.reserved
   pub no_write : is_write command ≡ false
   pub few : settled_after history.settings (accepted_commands history.records) command ≤ inline_settlements
 
 -- one more call of a history gives its answer and leaves the history after it, unless it is out of memory; it is out of
--- memory only if the history is not full and the call is not covered; what is refused leaves the history as it was
+-- memory only if the history is not full and the call is not assured; what is refused leaves the history as it was
 pub record IsCall (old : History) (caller : ℕ) (command : Command) (result : Result Receipt Refusal) (new : History)
     : Type 0 where
   pub answer : ¬ IsErrOf result NoMemory → result ≡ call_answer old caller command
   pub after : ¬ IsErrOf result NoMemory → new ≡ history_after old caller command
   pub no_memory_last : IsErrOf result NoMemory → is_full old ≡ false
-  pub frugal : IsCovered old command → IsOk result
+  pub frugal : IsAssured old command → IsOk result
   pub refused : OnErr result (new ≡ old)
 
 -- one more call of a history whose receipt nobody asks for: a full history is refused, and any other has its record
--- unless the call is out of memory, which a covered call never is; what is refused leaves the history as it was
+-- unless the call is out of memory, which an assured call never is; what is refused leaves the history as it was
 pub record IsRecording (old : History) (caller : ℕ) (command : Command) (result : Result (Unit {0}) Refusal) (new : History)
     : Type 0 where
   pub full : is_full old ≡ true → IsErrOf result HistoryFull
   pub no_memory : is_full old ≡ false → IsOkUnless result NoMemory
   pub after : ¬ IsErrOf result NoMemory → new ≡ history_after old caller command
-  pub frugal : IsCovered old command → IsOk result
+  pub frugal : IsAssured old command → IsOk result
   pub refused : OnErr result (new ≡ old)

@@ -13,7 +13,7 @@ use Rattle.ob_types.specs.declared.reply.Answer.TheVariants.{Id, Count, Yes, Don
 use Rattle.ob_types.specs.declared.reply.Change.TheVariants.{Unwritable}
 use Rattle.ob_seq.specs.Rows.{Settings}
 use Rattle.ob_seq.specs.Worked.{empty_look}
-use Rattle.ob_history.specs.History.{IsCovered, call_answer, history_after, accepted_commands, IsFirstBreak, History}
+use Rattle.ob_history.specs.History.{IsAssured, call_answer, history_after, accepted_commands, IsFirstBreak, History}
 use Rattle.ob_history.specs.History.{IsLegal, AreOwn, Holding, HoldAll, records_of, receipt_of, glance_after, seen_now}
 use Rattle.ob_history.specs.History.{settlements_in, settles}
 use Rattle.ob_history.specs.declared.record.Record.{Record}
@@ -183,8 +183,8 @@ OneHeldBack =
     ¬ HoldAll worked_records (record { caller = 7; receipts = receipt_of (write_at 0) ∷ receipt_of removal ∷ [] }
     ∷ record { caller = 2; receipts = receipt_of refused_cancel ∷ [] } ∷ [])
 
--- with one call reserved a removal is covered; a write never is, nor is any call with none reserved
-abbrev pub CoveredCalls : Type 0
-CoveredCalls =
-    IsCovered (stored 3) Remove × (¬ IsCovered (stored 3) (Write (Region 1)))
-    × (¬ IsCovered (record (stored 3) { reserved = 0 }) Remove)
+-- with one call reserved a removal is assured; a write never is, nor is any call with none reserved
+abbrev pub AssuredCalls : Type 0
+AssuredCalls =
+    IsAssured (stored 3) Remove × (¬ IsAssured (stored 3) (Write (Region 1)))
+    × (¬ IsAssured (record (stored 3) { reserved = 0 }) Remove)

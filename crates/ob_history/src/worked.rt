@@ -4,7 +4,7 @@ ghost use Rattle.ob_history.specs.Worked.{IsLegalWithARefusal, AcceptedWithoutTh
 ghost use Rattle.ob_history.specs.Worked.{IllegalAtAnotherPlace, IllegalWithAnotherReply, LastPlace, FullHistory};
 ghost use Rattle.ob_history.specs.Worked.{SeenBeforeTheRemoval, Glances, SettledByOneRecord, RecordsOfTwoCallers};
 ghost use Rattle.ob_history.specs.Worked.{OwnReceipts, ExchangedReceipts, ForeignReceipts, AllHeld, OneHeldBack};
-ghost use Rattle.ob_history.specs.Worked.{CoveredCalls, LegalUnderNewMarks, SeenUnderNewMarks};
+ghost use Rattle.ob_history.specs.Worked.{AssuredCalls, LegalUnderNewMarks, SeenUnderNewMarks};
 
 #[tactic(auto, unfolding(ob_seq::specs::State::user_bits))]
 fn worked_history()
@@ -22,7 +22,7 @@ fn worked_calls()
     ensures seen { SeenBeforeTheRemoval }
     ensures glances { Glances }
     ensures settled { SettledByOneRecord }
-    ensures covered { CoveredCalls }
+    ensures assured { AssuredCalls }
 {}
 
 #[tactic(auto, unfolding(ob_seq::specs::State::user_bits))]

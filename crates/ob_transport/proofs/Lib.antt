@@ -1,7 +1,7 @@
 pub mod Asked
 pub mod Beginnings
 pub mod Booked
-pub mod Covered
+pub mod Assured
 pub mod Turns
 pub mod Offers
 pub mod Open

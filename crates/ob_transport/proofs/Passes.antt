@@ -27,7 +27,7 @@ use Rattle.ob_transport.specs.declared.fault.Pass.TheVariants.{Idle, Stalled, Cl
 use Rattle.ob_transport.specs.declared.fault.PassFault.{PassFault}
 use Rattle.ob_transport.specs.declared.fault.PassFault.TheVariants.{Sink, HistoryFull, NoMemory, Unbooked}
 use Rattle.ob_transport.specs.declared.limits.Limits.{Limits}
-use Rattle.ob_transport.proofs.Covered.{first_has_place}
+use Rattle.ob_transport.proofs.Assured.{first_has_place}
 use Rattle.ob_transport.proofs.Open.{open_with_front, region_within, rows_more}
 use Rattle.ob_transport.proofs.Sent.{bytes_sent, no_bytes_sent, no_units_sent, one_more, units_sent}
 

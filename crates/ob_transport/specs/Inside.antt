@@ -10,7 +10,7 @@ use Rattle.ob_types.specs.declared.message.Message.TheVariants.{Block, Region, O
 use Rattle.ob_seq.specs.Effect.{rows_after}
 use Rattle.ob_seq.specs.Looks.{current_after, progress_of, gathered_after}
 use Rattle.ob_seq.specs.Rows.{Settings, front}
-use Rattle.ob_history.specs.History.{IsCovered, history_after, is_full, History, LacksPlaces, with_reserved}
+use Rattle.ob_history.specs.History.{IsAssured, history_after, is_full, History, LacksPlaces, with_reserved}
 use Rattle.ob_transport.specs.Pass.{Clears, SendsBytes, SendsUnits, Standing}
 use Rattle.ob_transport.specs.Sent.{Script, current_in, gathered_in, progress_in, Asked, OfBytes, OfUnits}
 use Rattle.ob_transport.specs.declared.fault.Pass.{Pass}
@@ -35,7 +35,7 @@ abbrev pub Given : {A : Type 0} → ℕ → Command → History → Result A Pas
 Given caller command before (Ok done) after = (is_full before ≡ false) × (after ≡ history_after before caller command)
 Given caller command before (Err (Sink fault)) after = ⊥
 Given caller command before (Err HistoryFull) after = (is_full before ≡ true) × (after ≡ before)
-Given caller command before (Err NoMemory) after = (is_full before ≡ false) × (¬ IsCovered before command)
+Given caller command before (Err NoMemory) after = (is_full before ≡ false) × (¬ IsAssured before command)
     × (after ≡ before)
 Given caller command before (Err (Unbooked taken)) after = ⊥
 

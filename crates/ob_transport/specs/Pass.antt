@@ -7,7 +7,7 @@ use Rattle.ob_types.specs.declared.command.Command.TheVariants.{Remove, RemoveBy
 use Rattle.ob_types.specs.declared.message.Message.TheVariants.{Block, Region, Other}
 use Rattle.ob_types.specs.declared.refusal.Refusal.{Refusal}
 use Rattle.ob_types.specs.declared.refusal.Refusal.TheVariants as refusal
-use Rattle.ob_history.specs.History.{IsCovered, history_after, is_full, History, LacksPlaces, with_reserved}
+use Rattle.ob_history.specs.History.{IsAssured, history_after, is_full, History, LacksPlaces, with_reserved}
 use Rattle.ob_transport.specs.Sent.{current_in, gathered_in, progress_in, sent_bytes_in, sent_units_in, unread_in}
 use Rattle.ob_transport.specs.Sent.{Content, with_failure, with_more_bytes, with_more_units}
 use Rattle.ob_transport.specs.declared.draining.Drained.{Drained}
@@ -44,7 +44,7 @@ Clears caller command before (Ok Cleared) after =
 Clears caller command before (Err (Sink fault)) after = ⊥
 Clears caller command before (Err HistoryFull) after = (is_full before.history ≡ true) × (after ≡ before)
 Clears caller command before (Err NoMemory) after =
-    (is_full before.history ≡ false) × (¬ IsCovered before.history command) × (after ≡ before)
+    (is_full before.history ≡ false) × (¬ IsAssured before.history command) × (after ≡ before)
 Clears caller command before (Err (Unbooked taken)) after = ⊥
 
 -- the history with two calls reserved
@@ -73,7 +73,7 @@ SendsBytes caller offered before (Err (Sink fault)) after =
 SendsBytes caller offered before (Err HistoryFull) after = LacksPlaces before.history 2 × (after ≡ before)
 SendsBytes caller offered before (Err NoMemory) after = after ≡ before
 SendsBytes caller offered before (Err (Unbooked taken)) after =
-    (0 < taken) × (taken ≤ length offered) × (¬ IsCovered (ready before) (RemoveBytes taken))
+    (0 < taken) × (taken ≤ length offered) × (¬ IsAssured (ready before) (RemoveBytes taken))
     × Comes before after (record {
       history = ready before;
       sink = with_more_bytes (take taken offered) before.sink;

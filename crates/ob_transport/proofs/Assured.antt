@@ -14,7 +14,7 @@ use Rattle.ob_seq.specs.Effect.{progressed_row, rows_after, taken_row, with_fron
 use Rattle.ob_seq.specs.Rows.{is_in_line, Row, Settings}
 use Rattle.ob_seq.specs.Pending.{settled_after, settled_by}
 use Rattle.ob_seq.proofs.Rows.Along.{settlement_same, settlements_behind}
-use Rattle.ob_history.specs.History.{IsCovered, history_after, is_full, next_record, with_record, accepted_commands}
+use Rattle.ob_history.specs.History.{IsAssured, history_after, is_full, next_record, with_record, accepted_commands}
 use Rattle.ob_history.specs.History.{History, LacksPlaces, with_reserved}
 use Rattle.ob_transport.specs.Inside.{Given}
 use Rattle.ob_transport.specs.declared.fault.PassFault.{PassFault}
@@ -70,13 +70,13 @@ pub removal_settles_few : (settings : Settings) (commands : List Command) → se
 removal_settles_few settings commands =
     few_settled settings commands Remove (few_with_front (taken_row Success) 0 (rows_after settings.estimate commands))
 
--- a call neither meets a full history nor runs out of memory if a place is left and the call is covered
+-- a call neither meets a full history nor runs out of memory if a place is left and the call is assured
 pub never_refused : (caller : ℕ) (command : Command) (before after : History) (fault : PassFault) →
-    is_full before ≡ false → IsCovered before command → Given {A = Unit {0}} caller command before (Err fault) after → ⊥
-never_refused caller command before after (Sink fault) room covered given = given
-never_refused caller command before after HistoryFull room covered given = absurd (let full = given.0 in cc)
-never_refused caller command before after NoMemory room covered given = given.1 covered
-never_refused caller command before after (Unbooked taken) room covered given = given
+    is_full before ≡ false → IsAssured before command → Given {A = Unit {0}} caller command before (Err fault) after → ⊥
+never_refused caller command before after (Sink fault) room assured given = given
+never_refused caller command before after HistoryFull room assured given = absurd (let full = given.0 in cc)
+never_refused caller command before after NoMemory room assured given = given.1 assured
+never_refused caller command before after (Unbooked taken) room assured given = given
 
 module _ (history : History) (caller : ℕ) (places : ¬ LacksPlaces history 2) where
   -- with two calls reserved there is a place for the first
@@ -106,19 +106,19 @@ module _ (history : History) (caller : ℕ) (places : ¬ LacksPlaces history 2) 
       room : (count limit : ℕ) → ¬ (limit < count + 2) → eqb (count + 1) limit ≡ false
       room count limit places = grind (arith, nat_tests)
 
-  -- both are covered
-  pub first_is_covered : (n : ℕ) → IsCovered (with_reserved history 2) (Progress n)
-  first_is_covered n = record {
+  -- both are assured
+  pub first_is_assured : (n : ℕ) → IsAssured (with_reserved history 2) (Progress n)
+  first_is_assured n = record {
     reserved = omega arith;
     no_write = refl;
     few = progress_settles_few history.settings (accepted_commands history.records) n;
   }
 
-  pub second_is_covered : (n : ℕ) → IsCovered (history_after (with_reserved history 2) caller (Progress n)) Remove
-  second_is_covered n =
+  pub second_is_assured : (n : ℕ) → IsAssured (history_after (with_reserved history 2) caller (Progress n)) Remove
+  second_is_assured n =
       let first = with_reserved history 2 in
       let next = with_record first (next_record first caller (Progress n)) in
-      subst (λ after. IsCovered after Remove) (sym (first_is_recorded (Progress n))) (record {
+      subst (λ after. IsAssured after Remove) (sym (first_is_recorded (Progress n))) (record {
         reserved = omega arith;
         no_write = refl;
         few = removal_settles_few history.settings (accepted_commands next.records);
@@ -129,7 +129,7 @@ module _ (history : History) (caller : ℕ) (places : ¬ LacksPlaces history 2) 
       middle ≡ with_reserved history 2 →
       Given {A = Unit {0}} caller' (Progress n) middle (Err fault) after → ⊥
   first_never_refused caller' n middle after fault is given =
-      never_refused caller' (Progress n) (with_reserved history 2) after fault first_has_place (first_is_covered n)
+      never_refused caller' (Progress n) (with_reserved history 2) after fault first_has_place (first_is_assured n)
       (subst (λ before. Given {A = Unit {0}} caller' (Progress n) before (Err fault) after) is given)
 
   pub second_never_refused : (caller' n : ℕ) (middle after : History) (fault : PassFault) →
@@ -137,5 +137,5 @@ module _ (history : History) (caller : ℕ) (places : ¬ LacksPlaces history 2) 
       Given {A = Unit {0}} caller' Remove middle (Err fault) after → ⊥
   second_never_refused caller' n middle after fault is given =
       never_refused caller' Remove (history_after (with_reserved history 2) caller (Progress n)) after fault
-      (second_has_place (Progress n)) (second_is_covered n)
+      (second_has_place (Progress n)) (second_is_assured n)
       (subst (λ before. Given {A = Unit {0}} caller' Remove before (Err fault) after) is given)
