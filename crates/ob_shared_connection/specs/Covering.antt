@@ -50,13 +50,13 @@ pub record PassesBudget {A : Type 0} (commands : List Command) (act : A) (old : 
 -- a call that the budget covers, or one that it does not
 abbrev pub ActsBy : {A E B : Type 0} → (E → Type 0) → (Connected → Result A E → Connected → Type 0) → List Command → B → Held
     → Result (Result A E) (OverBudget B) → Option Pressure → Held → Type 0
-ActsBy Uncovered Does commands act old (Ok result) pressure new = CallsUnder Uncovered Does commands old result pressure new
-ActsBy Uncovered Does commands act old (Err over) pressure new = PassesBudget commands act old over pressure new
+ActsBy Lacking Does commands act old (Ok result) pressure new = CallsUnder Lacking Does commands old result pressure new
+ActsBy Lacking Does commands act old (Err over) pressure new = PassesBudget commands act old over pressure new
 
 -- as the call tells it
 abbrev pub ActsWithin : {A E B : Type 0} → (E → Type 0) → (Connected → Result A E → Connected → Type 0) → List Command → B → Held
     → Told (Result (Result A E) (OverBudget B)) → Held → Type 0
-ActsWithin Uncovered Does commands act old told new = ActsBy Uncovered Does commands act old told.answer told.pressure new
+ActsWithin Lacking Does commands act old told new = ActsBy Lacking Does commands act old told.answer told.pressure new
 
 -- the seat of the cover gave back what was spare, down to so many quanta at most, and told of this turn
 pub record Settles (quanta : ℕ) (pressure : Option Pressure) (old new : Held) : Type 0 where
