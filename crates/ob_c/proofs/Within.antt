@@ -4,8 +4,7 @@ use Rattle.ob_types.specs.declared.command.Command.{Command}
 use Rattle.ob_budget.specs.declared.pressure.Pressure.{Pressure}
 use Rattle.ob_connection.specs.Connected.{Connected}
 use Rattle.ob_covered.specs.declared.fault.Told.{Told}
-use Rattle.ob_shared_connection.specs.Calls.{UnderLock}
-use Rattle.ob_shared_connection.specs.Covering.{ActsBy, ActsWithin}
+use Rattle.ob_shared_connection.specs.Calls.{UnderLock, ActsBy, ActsWithin}
 use Rattle.ob_shared_connection.specs.Values.{HandleValue, Held}
 use Rattle.ob_shared_connection.specs.declared.over.OverBudget.{OverBudget}
 use Rattle.ob_c.specs.Within.{DoesWithin, let_go, with_nothing, without_act}

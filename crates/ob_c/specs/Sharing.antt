@@ -12,9 +12,8 @@ use Rattle.ob_connection.specs.Connected.{Connected}
 use Rattle.ob_connection.specs.Obeying.{done_reply}
 use Rattle.ob_shared_connection.specs.Calls.{Makes, ObeyingFreely, UnderLock, IsAnother, IsButForShare, IsFirst}
 use Rattle.ob_shared_connection.specs.Calls.{Gathers, IsLook}
-use Rattle.ob_shared_connection.specs.Glances.{IsGlance}
+use Rattle.ob_shared_connection.specs.Values.{IsGlance, HandleValue, Held, sharing}
 use Rattle.ob_shared_connection.specs.Sending.{AreInFront}
-use Rattle.ob_shared_connection.specs.Values.{HandleValue, Held, sharing}
 use Rattle.ob_shared_connection.specs.declared.glance.Glance.{Glance as GlanceReply}
 use Rattle.ob_c.specs.Calls.{AreAt}
 use Rattle.ob_c.specs.Replies.{accepted, already_open, busy, done, no_block, no_memory, not_open, status_in_c}

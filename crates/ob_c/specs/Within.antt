@@ -11,8 +11,7 @@ use Rattle.ob_connection.specs.Connected.{Connected}
 use Rattle.ob_connection.specs.declared.replies.Written.{Written as WrittenReply}
 use Rattle.ob_covered.specs.Cover.{CoverValue, left_of}
 use Rattle.ob_covered.specs.declared.fault.Told.{Told}
-use Rattle.ob_shared_connection.specs.Calls.{IsUncovered, Putting, ThenFlushes, IsFirst}
-use Rattle.ob_shared_connection.specs.Covering.{ActsBy}
+use Rattle.ob_shared_connection.specs.Calls.{IsUncovered, Putting, ThenFlushes, IsFirst, ActsBy}
 use Rattle.ob_shared_connection.specs.Values.{HandleValue, Held}
 use Rattle.ob_shared_connection.specs.declared.not_written.WriteFault.{WriteFault}
 use Rattle.ob_shared_connection.specs.declared.over.OverBudget.{OverBudget}

@@ -34,9 +34,8 @@ impl Model for Shared {
 unsafe impl Send for Shared {}
 
 impl Shared {
-    ghost use Rattle.ob_shared_connection.specs.Calls.{IsCall};
+    ghost use Rattle.ob_shared_connection.specs.Calls.{IsCall, Settles, ShowsHeld};
     ghost use Rattle.ob_shared_connection.specs.Values.{MayGive};
-    ghost use Rattle.ob_shared_connection.specs.Covering.{Settles, ShowsHeld};
     ghost use Rattle.ob_c.specs.Reaching.{LendsShared};
     ghost use Rattle.ob_c.specs.Sharing.{Tries, TriesTo, TriesToLook};
     ghost use Rattle.ob_c.specs.Within.{DoesWithin};

@@ -32,8 +32,7 @@ impl Model for Transport {
 unsafe impl Send for Transport {}
 
 impl Transport {
-    ghost use Rattle.ob_shared_connection.specs.Calls.{IsCall};
-    ghost use Rattle.ob_shared_connection.specs.Covering.{Settles};
+    ghost use Rattle.ob_shared_connection.specs.Calls.{IsCall, Settles};
     ghost use Rattle.ob_c.specs.Reaching.{LendsTransport};
     ghost use Rattle.ob_c.specs.Sharing.{Tries, TriesTo, TriesToLook};
 

@@ -3,7 +3,7 @@
 ghost use Rattle.std.specs.Prelude.{◌≡◌, ◌≤◌, IfErr, IfOk, None, nat_eq};
 ghost use Rattle.ob_types.specs.Limits.{greatest_overhead, greatest_unknown};
 ghost use Rattle.ob_types.specs.declared.message.Message.TheVariants.{Block as AsBlock, Region as AsRegion, Other as AsOther};
-ghost use Rattle.ob_shared_connection.specs.Covering.{Settles, ShowsHeld};
+ghost use Rattle.ob_shared_connection.specs.Calls.{Settles, ShowsHeld};
 ghost use Rattle.ob_c.specs.Calls.{settings_for, settings_of};
 ghost use Rattle.ob_c.specs.Sharing.{TriesTo, TriesToWithBlock, TriesToWithMemory};
 ghost use Rattle.ob_c.specs.Within.{KeepsSharedWithin, OpensSharedWithin, PutsAndFlushesWithin, PutsWithin};

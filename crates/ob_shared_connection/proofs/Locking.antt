@@ -15,9 +15,8 @@ use Rattle.ob_seq.specs.Rows.{Settings}
 use Rattle.ob_shared_connection.specs.Ruled.{bell_word, is_silent, AreCounted, Fits, IsShown, IsVacant, Ruled}
 use Rattle.ob_shared_connection.specs.Ruled.{free_view, held_view, settings_of}
 use Rattle.ob_shared_connection.specs.Values.{IsCovered, Within, cover_of, IsBeginning, commands_by, commands_of}
-use Rattle.ob_shared_connection.specs.Values.{IsLeftBy}
+use Rattle.ob_shared_connection.specs.Values.{IsLeftBy, is_due, moment_after}
 use Rattle.ob_shared_connection.specs.Steps.{IsRung, MayLeave, Knows, Tries, carried_in}
-use Rattle.ob_shared_connection.specs.Glances.{is_due, moment_after}
 use Rattle.ob_shared_connection.specs.declared.bell.Waiter.{Waiter}
 use Rattle.ob_shared_connection.specs.declared.call.Call.{Call}
 use Rattle.ob_shared_connection.specs.declared.carried.Carried.{Carried}

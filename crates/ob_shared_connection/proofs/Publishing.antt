@@ -12,8 +12,8 @@ use Rattle.ob_types.specs.declared.command.Command.{Command}
 use Rattle.ob_seq.specs.Rows.{Settings}
 use Rattle.ob_shared_connection.specs.Ruled.{bell_word, AreCounted, Fits, Past, Ruled, calls_with, count_if, handles_of}
 use Rattle.ob_shared_connection.specs.Ruled.{seeing_view, settings_of, shown_view, view_with}
-use Rattle.ob_shared_connection.specs.Glances.{IsLegal, glance_after, packed_glance}
-use Rattle.ob_shared_connection.specs.Values.{IsBeginning, calls_of, commands_by, MayGive, NoneRemoves}
+use Rattle.ob_shared_connection.specs.Values.{IsLegal, glance_after, packed_glance, IsBeginning, calls_of, commands_by}
+use Rattle.ob_shared_connection.specs.Values.{MayGive, NoneRemoves}
 use Rattle.ob_shared_connection.specs.Steps.{Finds, HasLock, IsNow, Knows, Reads}
 use Rattle.ob_shared_connection.specs.declared.bell.Waiter.{Waiter}
 use Rattle.ob_shared_connection.specs.declared.call.Call.{Call}

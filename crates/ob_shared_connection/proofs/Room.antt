@@ -4,7 +4,7 @@ use Rattle.std.specs.List.{All, sum_by}
 use Rattle.std.proofs.lemmas.List.Elements.{All-head, All-tail}
 use Rattle.std.proofs.lemmas.List.Sums.{sum_by-cons}
 use Rattle.ob_budget.specs.declared.account.Account.{Account}
-use Rattle.ob_shared_connection.specs.Covering.{AllWithinRoom, Covering, pending_under}
+use Rattle.ob_shared_connection.specs.Calls.{AllWithinRoom, Covering, pending_under}
 
 no_more : (seats : List Covering) → All (λ covering. pending_under covering ≤ covering.account.held) seats
     → sum_by pending_under seats ≤ sum_by (λ account. account.held) (map (λ (covering : Covering). covering.account) seats)

@@ -9,8 +9,7 @@ use Rattle.ob_connection.specs.Connected.{Connected, StandsFor}
 use Rattle.ob_covered.specs.Cover.{CoverValue}
 use Rattle.ob_shared_connection.specs.Calls.{Continues, IsCall, IsLock}
 use Rattle.ob_shared_connection.specs.Values.{IsCovered, IsUnder, budget_of, cover_of, calls_of, commands_by}
-use Rattle.ob_shared_connection.specs.Values.{commands_of, IsLeftBy, recovered}
-use Rattle.ob_shared_connection.specs.Glances.{IsGlance, IsLegal, glance_after}
+use Rattle.ob_shared_connection.specs.Values.{commands_of, IsLeftBy, recovered, IsGlance, IsLegal, glance_after}
 use Rattle.ob_shared_connection.specs.Ruled.{settings_of, view_with}
 use Rattle.ob_shared_connection.specs.Steps.{Holds, IsNamed, Knows, Locks, Reads, Rests, carried_in, connected_in}
 use Rattle.ob_shared_connection.specs.Steps.{cover_in, handle_of, held_of}

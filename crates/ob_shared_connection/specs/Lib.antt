@@ -1,6 +1,4 @@
 pub mod Calls
-pub mod Covering
-pub mod Glances
 pub mod Ruled
 pub mod Sending
 pub mod Steps

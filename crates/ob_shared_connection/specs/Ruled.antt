@@ -14,8 +14,8 @@ use Rattle.ob_seq.specs.Looks.{look_after}
 use Rattle.ob_seq.specs.Rows.{Settings}
 use Rattle.ob_connection.specs.Connected.{Connected, Gives}
 use Rattle.ob_shared_connection.specs.Values.{IsCovered, Within, cover_of, IsBeginning, calls_of, commands_by}
-use Rattle.ob_shared_connection.specs.Values.{commands_of, NoneRemoves, halves, parts_in, IsLeftBy}
-use Rattle.ob_shared_connection.specs.Glances.{IsLegal, glance_after, packed_glance, is_due, moment_after}
+use Rattle.ob_shared_connection.specs.Values.{commands_of, NoneRemoves, halves, parts_in, IsLeftBy, IsLegal}
+use Rattle.ob_shared_connection.specs.Values.{glance_after, packed_glance, is_due, moment_after}
 use Rattle.ob_shared_connection.specs.declared.bell.Waiter.{Waiter}
 use Rattle.ob_shared_connection.specs.declared.bell.Waiter.TheVariants.{Writer, Sender}
 use Rattle.ob_shared_connection.specs.declared.call.Call.{Call}

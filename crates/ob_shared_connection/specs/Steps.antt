@@ -8,8 +8,8 @@ use Rattle.ob_covered.specs.Cover.{CoverValue}
 use Rattle.ob_shared_connection.specs.Ruled.{awaited, is_owed, is_silent, silent, unheard, hearing_view, held_view}
 use Rattle.ob_shared_connection.specs.Ruled.{named_view, seeing_view, sending_view, settings_of, shown_view}
 use Rattle.ob_shared_connection.specs.Values.{IsCovered, cover_of, IsBeginning, commands_by, commands_of, NoneRemoves}
-use Rattle.ob_shared_connection.specs.Values.{HandleValue, Held, IsLeftBy}
-use Rattle.ob_shared_connection.specs.Glances.{IsLegal, glance_after, packed_glance, is_due, moment_after}
+use Rattle.ob_shared_connection.specs.Values.{HandleValue, Held, IsLeftBy, IsLegal, glance_after, packed_glance, is_due}
+use Rattle.ob_shared_connection.specs.Values.{moment_after}
 use Rattle.ob_shared_connection.specs.Calls.{IsEnd}
 use Rattle.ob_shared_connection.specs.declared.bell.Waiter.{Waiter}
 use Rattle.ob_shared_connection.specs.declared.call.Call.{Call}

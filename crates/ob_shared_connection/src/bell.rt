@@ -2,7 +2,7 @@
 ghost use Rattle.std.specs.Prelude.{◌≡◌, ◌<◌};
 ghost use Rattle.ob_connection.specs.Connected.{Gives};
 ghost use Rattle.ob_shared_connection.specs.Ruled.{bell_word};
-ghost use Rattle.ob_shared_connection.specs.Glances.{moment_after};
+ghost use Rattle.ob_shared_connection.specs.Values.{moment_after};
 
 use crate::moment::Moment;
 use crate::patience::Patience;

@@ -38,9 +38,9 @@ impl Caller {
     ghost use Rattle.ob_types.specs.Limits.{greatest_overhead, greatest_unknown};
     ghost use Rattle.ob_shared_connection.specs.Calls.{IsAnother, IsButForShare, IsEnd, IsFirst, IsJoined, IsCall};
     ghost use Rattle.ob_shared_connection.specs.Calls.{IsLock, UnderLock, IsLook};
-    ghost use Rattle.ob_shared_connection.specs.Values.{appointed, resigned, sharing, budget_of, MayGive};
+    ghost use Rattle.ob_shared_connection.specs.Values.{appointed, resigned, sharing, budget_of, MayGive, IsGlance};
+    ghost use Rattle.ob_shared_connection.specs.Values.{IsMoment, Waited, is_due};
     ghost use Rattle.ob_shared_connection.specs.Ruled.{within_of};
-    ghost use Rattle.ob_shared_connection.specs.Glances.{IsGlance, IsMoment, Waited, is_due};
     ghost use Rattle.ob_shared_connection.specs.Steps.{caller_handle, caller_held, IsFree, IsHolder};
 
     /// The first caller of a connection with nothing written.

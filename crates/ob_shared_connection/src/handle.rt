@@ -2,8 +2,7 @@ ghost use Rattle.std.specs.Prelude.{◌≡◌, ◌≤◌, true, IfErr, IfOk, IsO
 ghost use Rattle.ob_types.specs.Limits.{greatest_overhead, greatest_unknown};
 ghost use Rattle.ob_shared_connection.specs.Calls.{IsLock, UnderLock, IsAnother, IsButForShare, IsEnd, IsFirst};
 ghost use Rattle.ob_shared_connection.specs.Calls.{IsJoined};
-ghost use Rattle.ob_shared_connection.specs.Glances.{IsGlance, IsMoment, is_due};
-ghost use Rattle.ob_shared_connection.specs.Values.{commands_by, appointed, sharing};
+ghost use Rattle.ob_shared_connection.specs.Values.{IsGlance, IsMoment, is_due, commands_by, appointed, sharing};
 ghost use Rattle.ob_shared_connection.specs.declared.bell.Waiter.TheVariants as waiter;
 
 mod commands;

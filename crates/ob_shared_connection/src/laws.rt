@@ -1,7 +1,7 @@
 //! What holds of every list of accepted commands. These laws speak of definitions, and the calls of a handle and of a
 //! transport return what those give.
 
-ghost use Rattle.ob_shared_connection.specs.Covering.{AllWithinRoom};
+ghost use Rattle.ob_shared_connection.specs.Calls.{AllWithinRoom};
 ghost use Rattle.ob_shared_connection.specs.Sending.{BytesStay};
 
 /// What a transport gathered is in front still when it takes the lock again, and any number of those bytes can be taken

@@ -6,7 +6,7 @@ ghost use Rattle.ob_connection.specs.Connected.{IsFrontPromise, Refuses, Shows, 
 ghost use Rattle.ob_connection.specs.Connected.{Gives};
 ghost use Rattle.ob_shared_connection.specs.Calls.{Gathers, RefusesFreely};
 ghost use Rattle.ob_shared_connection.specs.Ruled.{IsParting};
-ghost use Rattle.ob_shared_connection.specs.Glances.{moment_after};
+ghost use Rattle.ob_shared_connection.specs.Values.{moment_after};
 
 use crate::ask::Ask;
 use crate::bell::{Bell, Work, Writers};

@@ -1,5 +1,5 @@
 ghost use Rattle.std.specs.Prelude.{◌≡◌};
-ghost use Rattle.ob_shared_connection.specs.Glances.{is_due};
+ghost use Rattle.ob_shared_connection.specs.Values.{is_due};
 
 /// What a handle that waits finds under the lock.
 #[derive(Clone, Copy, Debug, PartialEq, Eq)]

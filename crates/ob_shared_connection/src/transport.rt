@@ -2,8 +2,7 @@ ghost use Rattle.std.specs.Prelude.{◌≡◌, ◌<◌, true, IfErr, IfOk, OnErr
 ghost use Rattle.ob_seq.specs.Effect.{bytes_in};
 ghost use Rattle.ob_shared_connection.specs.Calls.{IsLock, UnderLock, IsAnother, IsButForShare, Gathers, IsLook};
 ghost use Rattle.ob_shared_connection.specs.Sending.{AreInFront};
-ghost use Rattle.ob_shared_connection.specs.Values.{resigned, sharing};
-ghost use Rattle.ob_shared_connection.specs.Glances.{Waited, is_due};
+ghost use Rattle.ob_shared_connection.specs.Values.{resigned, sharing, Waited, is_due};
 ghost use Rattle.ob_shared_connection.specs.declared.bell.Waiter.TheVariants as waiter;
 
 mod commands;

@@ -2,8 +2,7 @@
 
 ghost use Rattle.std.specs.Prelude.{◌≡◌, ◌<◌, IfErr, IfOk, IfSome, None, OnErr, OnOk};
 ghost use Rattle.ob_shared_connection.specs.Steps.{IsFree, IsHolder, caller_handle, caller_held};
-ghost use Rattle.ob_shared_connection.specs.Calls.{UnderLock};
-ghost use Rattle.ob_shared_connection.specs.Covering.{ActsWithin, IsRecovered, Settles, ShowsHeld};
+ghost use Rattle.ob_shared_connection.specs.Calls.{UnderLock, ActsWithin, IsRecovered, Settles, ShowsHeld};
 ghost use Rattle.ob_shared_connection.specs.Values.{Adds, HoldsFor, LacksRoom, TakesFor, TellsIf, MayGive};
 
 use crate::act::Act;

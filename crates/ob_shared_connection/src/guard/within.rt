@@ -1,5 +1,5 @@
 //! The calls of a connection within a budget, under the lock.
-ghost use Rattle.ob_shared_connection.specs.Covering.{ActsWithin, Settles, ShowsHeld};
+ghost use Rattle.ob_shared_connection.specs.Calls.{ActsWithin, Settles, ShowsHeld};
 ghost use Rattle.ob_shared_connection.specs.Values.{MayGive};
 
 use crate::act::Act;

@@ -1,8 +1,7 @@
 //! The calls that are made if the lock is free. They wait for nobody, and wake nobody: each tells whom to wake.
 ghost use Rattle.std.specs.Prelude.{◌≡◌, ◌≢◌, IfErr, IfOk, IfSome, None, OnErr};
 ghost use Rattle.ob_shared_connection.specs.Calls.{IsCall, UnderLock, IsLook};
-ghost use Rattle.ob_shared_connection.specs.Values.{MayGive, appointed};
-ghost use Rattle.ob_shared_connection.specs.Glances.{Waited};
+ghost use Rattle.ob_shared_connection.specs.Values.{MayGive, appointed, Waited};
 ghost use Rattle.ob_shared_connection.specs.declared.bell.Waiter.TheVariants as waiter;
 
 use crate::act::Act;

@@ -1,7 +1,6 @@
 //! The calls of a connection within a budget.
 ghost use Rattle.std.specs.Prelude.{◌≡◌, IfErr, IfOk, IfSome, IsOk, None, OnErr};
-ghost use Rattle.ob_shared_connection.specs.Calls.{UnderLock};
-ghost use Rattle.ob_shared_connection.specs.Covering.{ActsWithin, Settles, ShowsHeld};
+ghost use Rattle.ob_shared_connection.specs.Calls.{UnderLock, ActsWithin, Settles, ShowsHeld};
 ghost use Rattle.ob_shared_connection.specs.Values.{MayGive};
 
 use crate::act::Act;

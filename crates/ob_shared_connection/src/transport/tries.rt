@@ -6,7 +6,7 @@ ghost use Rattle.ob_types.specs.declared.promise.Outcome.TheVariants.{Success};
 ghost use Rattle.ob_seq.specs.Effect.{bytes_in};
 ghost use Rattle.ob_shared_connection.specs.Calls.{IsCall, Makes, Taking, UnderLock, Gathers, IsLook};
 ghost use Rattle.ob_shared_connection.specs.Sending.{AreInFront};
-ghost use Rattle.ob_shared_connection.specs.Glances.{Waited};
+ghost use Rattle.ob_shared_connection.specs.Values.{Waited};
 ghost use Rattle.ob_shared_connection.specs.declared.bell.Waiter.TheVariants as waiter;
 
 use crate::act::Act;

@@ -1,7 +1,6 @@
 //! The calls of a transport of a connection within a budget.
 ghost use Rattle.std.specs.Prelude.{◌≡◌, IfErr, IfOk, IfSome, None, OnErr};
-ghost use Rattle.ob_shared_connection.specs.Calls.{UnderLock};
-ghost use Rattle.ob_shared_connection.specs.Covering.{ActsWithin, Settles};
+ghost use Rattle.ob_shared_connection.specs.Calls.{UnderLock, ActsWithin, Settles};
 
 use crate::act::Act;
 use crate::over::OverBudget;

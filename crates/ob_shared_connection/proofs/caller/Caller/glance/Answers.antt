@@ -1,6 +1,6 @@
 use Rattle.std.proofs.Common.{sym, subst}
 use Rattle.atomic_table.specs.Seated.{TableId}
-use Rattle.ob_shared_connection.specs.Glances.{IsGlance}
+use Rattle.ob_shared_connection.specs.Values.{IsGlance}
 use Rattle.ob_shared_connection.specs.Steps.{handle_of}
 use Rattle.ob_shared_connection.proofs.Told.{is_glance, still_rests}
 use Rattle.ob_shared_connection.proofs.caller.Caller.glance.Goals as goal
