@@ -93,6 +93,7 @@ impl Caller {
         else {
             return Err(cover);
         };
+        // nobody else has the new `Arc`, so this is always there
         let Some(place) = Arc::get_mut(&mut shared) else {
             return Err(cover);
         };

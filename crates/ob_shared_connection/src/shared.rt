@@ -1,50 +1,25 @@
 ghost use Rattle.std.specs.Prelude.{◌≡◌, ◌≤◌, ℕ, false, true, [], IfErr, IfOk, OnOk, Some, option_map};
 ghost use Rattle.std.specs.Box.{box_value};
 
-use crate::bell::{Bell, Work, Writers};
+mod bells;
+mod locking;
+
 use crate::carried::Carried;
 use crate::ended::Ended;
 use crate::handle::TooManyHandles;
-use crate::owed::Owed;
-use crate::patience::{Patience, pause};
-use crate::place::Place;
 use crate::plays::{
-    Accepted, Appoint, Await, Cut, Find, Hear, List, Lock, Name, Publish, Published, Read, Resign,
-    Silence, Take, Unlock,
+    Accepted, Appoint, Cut, Find, List, Name, Publish, Published, Read, Resign, Take,
 };
-use crate::rule::{
-    AWAITED, FREE, GIVEN, GIVEN_OUT, LOCK, Opened, PUBLISHED, ROLE, Rule, SILENT, TAKEN, VACANT,
-    WAITED, WORDS,
-};
+use crate::rule::{FREE, GIVEN, GIVEN_OUT, LOCK, Opened, PUBLISHED, ROLE, Rule, VACANT, WORDS};
 use crate::view::View;
-use crate::wakes::Wakes;
 use atomic_table::{Refused, Table};
 use ob_connection::Connection;
 use ob_covered::Cover;
 use std::alloc::Global;
 use std::marker::Brand;
-use std::sync::Wait;
-use std::thread::{Parker, yield_now};
-use std::time::Duration;
 
 /// What one handle steps with. It has no bytes.
 pub type Seat = atomic_table::Seat<Carried, View>;
-
-/// How often a thread that finds the lock taken pauses and tries again, before it lets others run.
-const PAUSES: u32 = 6;
-
-/// How often it lets others run and tries again, before it naps.
-const YIELDS: u32 = 10;
-
-/// How often it naps and tries again, before it sleeps until it is woken.
-const NAPS: u32 = 100;
-
-/// How many microseconds a nap takes.
-const NAP: u64 = 50;
-
-/// How often a thread that is to sleep at a bell looks whether it has rung already, with pauses between: some tens of
-/// microseconds, less than it takes to wake a thread.
-const LOOKS: u32 = 40;
 
 /// The table that all handles of a connection share: the lock is one of its words, and the connection lies in its slot.
 #[derive(Drop)]
@@ -56,14 +31,11 @@ pub struct Shared {
 
 impl Shared {
     ghost use Rattle.ob_types.specs.Limits.{greatest_overhead, greatest_unknown};
-    ghost use Rattle.ob_shared_connection.specs.Ruled.{awaited, is_owed, silenced, silent, both_views, first_view};
-    ghost use Rattle.ob_shared_connection.specs.Ruled.{free_view, hearing_view, named_view, new_view, resigned_view};
+    ghost use Rattle.ob_shared_connection.specs.Ruled.{both_views, first_view, named_view, new_view, resigned_view};
     ghost use Rattle.ob_shared_connection.specs.Ruled.{sending_view, sharing_view, shown_view, view_with, within_of};
     ghost use Rattle.ob_shared_connection.specs.Ruled.{IsSeatOf, IsSameSeat};
-    ghost use Rattle.ob_shared_connection.specs.declared.bell.Waiter.TheVariants as waiter;
     ghost use Rattle.ob_shared_connection.specs.Values.{budget_of, commands_by, MayGive};
-    ghost use Rattle.ob_shared_connection.specs.Steps.{HasLock, Hushes, IsEndOf, IsNamed, IsNow, Locks, MayLeave};
-    ghost use Rattle.ob_shared_connection.specs.Steps.{Reads, Rests};
+    ghost use Rattle.ob_shared_connection.specs.Steps.{HasLock, IsEndOf, IsNow, Reads, Rests};
 
     /// A table with a connection that has nothing written, and its first seat; the cover comes back if there is no memory.
     pub fn new(
@@ -110,234 +82,9 @@ impl Shared {
         match Shared::new(alloc, opened, Some(cover)) {
             Ok(made) => Ok(made),
             Err(Some(cover)) => Err(Box::into_inner(cover)),
+            // a cover went in, so one comes back
             Err(None) => unreachable!(),
         }
-    }
-
-    /// Takes the lock if it is free.
-    #[inline(always)]
-    pub fn try_lock(&self, seat: &mut Seat) -> bool
-        requires table { IsSeatOf self.now seat.old }
-        requires rests { Rests seat.old.me }
-        ensures seat { IsSameSeat seat.old seat.new }
-        ensures taken { result ≡ true → Locks seat.old.me seat.new.me }
-        ensures missed { result ≡ false → seat.new.me ≡ seat.old.me }
-    {
-        self.table
-            .shared
-            .compare_exchange::<Lock>(seat, LOCK, FREE, TAKEN)
-            == FREE
-    }
-
-    /// Takes the lock if it is free; else whoever has it knows that another waits.
-    fn ask_lock(&self, seat: &mut Seat) -> bool
-        requires table { IsSeatOf self.now seat.old }
-        requires rests { Rests seat.old.me }
-        ensures seat { IsSameSeat seat.old seat.new }
-        ensures taken { result ≡ true → Locks seat.old.me seat.new.me }
-        ensures missed { result ≡ false → seat.new.me ≡ seat.old.me }
-    {
-        self.table.shared.swap::<Lock>(seat, LOCK, WAITED) == FREE
-    }
-
-    /// Takes the lock. Who finds it taken pauses, then lets others run, then naps, and then sleeps until it is woken.
-    // in one piece with its callers: most often it is free
-    #[inline(always)]
-    pub fn lock<R: Wait>(&self, rt: &R, seat: &mut Seat, patience: Patience)
-        requires table { IsSeatOf self.now seat.old }
-        requires rests { Rests seat.old.me }
-        ensures seat { IsSameSeat seat.old seat.new }
-        ensures locks { Locks seat.old.me seat.new.me }
-    {
-        if !self.try_lock(seat) {
-            self.lock_later(rt, seat, patience);
-        }
-    }
-
-    /// The same for one who found it taken.
-    #[inline(never)]
-    fn lock_later<R: Wait>(&self, rt: &R, seat: &mut Seat, patience: Patience)
-        requires table { IsSeatOf self.now seat.old }
-        requires rests { Rests seat.old.me }
-        ensures seat { IsSameSeat seat.old seat.new }
-        ensures locks { Locks seat.old.me seat.new.me }
-    {
-        if self.pausing(seat, patience) || self.yielding(seat) || self.napping(rt, seat) {
-            return;
-        }
-        'asks: for _ in rt.forever() {
-            if self.ask_lock(seat) {
-                return;
-            }
-            self.table.shared.park(rt, LOCK, WAITED as u32);
-        }
-        unreachable!()
-    }
-
-    /// Tries to take the lock, and pauses between tries: whoever has it makes several calls meanwhile.
-    fn pausing(&self, seat: &mut Seat, patience: Patience) -> bool
-        requires table { IsSeatOf self.now seat.old }
-        requires rests { Rests seat.old.me }
-        ensures seat { IsSameSeat seat.old seat.new }
-        ensures taken { result ≡ true → Locks seat.old.me seat.new.me }
-        ensures missed { result ≡ false → seat.new.me ≡ seat.old.me }
-    {
-        'pauses: for turn in 0..PAUSES {
-            pause(patience.pauses(turn));
-            if self.try_lock(seat) {
-                return true;
-            }
-        }
-        false
-    }
-
-    /// Tries to take the lock, and lets other threads run between tries.
-    fn yielding(&self, seat: &mut Seat) -> bool
-        requires table { IsSeatOf self.now seat.old }
-        requires rests { Rests seat.old.me }
-        ensures seat { IsSameSeat seat.old seat.new }
-        ensures taken { result ≡ true → Locks seat.old.me seat.new.me }
-        ensures missed { result ≡ false → seat.new.me ≡ seat.old.me }
-    {
-        'yields: for _ in 0..YIELDS {
-            yield_now();
-            if self.try_lock(seat) {
-                return true;
-            }
-        }
-        false
-    }
-
-    /// Tries to take the lock, and naps between tries: whoever has it goes on meanwhile, and wakes nobody.
-    fn napping<R: Wait>(&self, rt: &R, seat: &mut Seat) -> bool
-        requires table { IsSeatOf self.now seat.old }
-        requires rests { Rests seat.old.me }
-        ensures seat { IsSameSeat seat.old seat.new }
-        ensures taken { result ≡ true → Locks seat.old.me seat.new.me }
-        ensures missed { result ≡ false → seat.new.me ≡ seat.old.me }
-    {
-        // nobody else has this one, so nothing but time ends a nap
-        let parker = Parker::new();
-        'naps: for _ in 0..NAPS {
-            parker.park_timeout(rt, Duration::from_micros(NAP));
-            if self.try_lock(seat) {
-                return true;
-            }
-        }
-        false
-    }
-
-    /// Lets the lock go, and tells whom to wake: it wakes nobody.
-    #[inline(always)]
-    pub fn leave(&self, seat: &mut Seat, writers: Owed<Writers>, work: Owed<Work>) -> Wakes
-        requires table { IsSeatOf self.now seat.old }
-        requires may { MayLeave seat.old.me }
-        requires writers { writers.waits ≡ is_owed waiter.Writer seat.old.me.0.bells }
-        requires work { work.waits ≡ is_owed waiter.Sender seat.old.me.0.bells }
-        ensures seat { IsSameSeat seat.old seat.new }
-        ensures view { seat.new.me.0 ≡ free_view seat.old.me.0 }
-        ensures slots { seat.new.me.1 ≡ [] }
-        ensures writers_told { result.writers ≡ is_owed waiter.Writer seat.old.me.0.bells }
-        ensures work_told { result.work ≡ is_owed waiter.Sender seat.old.me.0.bells }
-    {
-        let found = self.table.shared.swap::<Unlock>(seat, LOCK, FREE);
-        Wakes {
-            next: found == WAITED,
-            writers: writers.tell(),
-            work: work.tell(),
-        }
-    }
-
-    /// Has a bell ring if who waits there may go on: it is silent then, and what is owed is told.
-    #[inline(always)]
-    pub fn hush<B: Bell>(&self, seat: &mut Seat, due: bool) -> Owed<B>
-        requires table { IsSeatOf self.now seat.old }
-        requires lock { HasLock seat.old.me }
-        requires unowed { is_owed B.waiter seat.old.me.0.bells ≡ false }
-        ensures seat { IsSameSeat seat.old seat.new }
-        ensures hushes { Hushes B.waiter due result.waits seat.old.me seat.new.me }
-    {
-        if !due || self.is_silent::<B>(seat) {
-            return Owed::new(false);
-        }
-        self.silence::<B>(seat);
-        Owed::new(true)
-    }
-
-    /// Whether nobody waits at a bell. One load.
-    #[inline(always)]
-    fn is_silent<B: Bell>(&self, seat: &mut Seat) -> bool
-        requires table { IsSeatOf self.now seat.old }
-        requires lock { HasLock seat.old.me }
-        ensures seat { IsSameSeat seat.old seat.new }
-        ensures none { result ≡ true → seat.new.me ≡ (hearing_view (silent B.waiter seat.old.me.0.bells) seat.old.me.0, seat.old.me.1) }
-        ensures some_one { result ≡ false → seat.new.me ≡ seat.old.me }
-    {
-        self.table.shared.load::<Hear<B>>(seat, B::word()) == SILENT
-    }
-
-    /// Silences a bell: those who wait there are owed to be woken.
-    fn silence<B: Bell>(&self, seat: &mut Seat)
-        requires table { IsSeatOf self.now seat.old }
-        requires lock { HasLock seat.old.me }
-        ensures seat { IsSameSeat seat.old seat.new }
-        ensures me { seat.new.me ≡ (hearing_view (silenced B.waiter seat.old.me.0.bells) seat.old.me.0, seat.old.me.1) }
-    {
-        self.table
-            .shared
-            .store::<Silence<B>>(seat, B::word(), SILENT);
-    }
-
-    /// Tells at a bell that someone is to wait there.
-    pub fn await_bell<B: Bell>(&self, seat: &mut Seat) -> Place<B>
-        requires table { IsSeatOf self.now seat.old }
-        requires lock { HasLock seat.old.me }
-        ensures seat { IsSameSeat seat.old seat.new }
-        ensures me { seat.new.me ≡ (hearing_view (awaited B.waiter seat.old.me.0.bells) seat.old.me.0, seat.old.me.1) }
-    {
-        self.table
-            .shared
-            .store::<Await<B>>(seat, B::word(), AWAITED);
-        Place::new()
-    }
-
-    /// Sleeps at a bell unless it has rung since, until it rings. It may also return for no reason.
-    pub fn sleep<B: Bell, R: Wait>(&self, rt: &R, place: Place<B>) {
-        place.leave();
-        if !self.has_rung::<B>() {
-            self.table.shared.park(rt, B::word(), AWAITED as u32);
-        }
-    }
-
-    /// The same, for no longer than this.
-    pub fn sleep_within<B: Bell, R: Wait>(&self, rt: &R, place: Place<B>, limit: Duration) {
-        place.leave();
-        if !self.has_rung::<B>() {
-            self.table
-                .shared
-                .park_timeout(rt, B::word(), AWAITED as u32, limit);
-        }
-    }
-
-    /// Whether a bell rings while one looks at it for a while.
-    fn has_rung<B: Bell>(&self) -> bool {
-        'looks: for _ in 0..LOOKS {
-            if self.table.shared.peek(B::word()) != AWAITED {
-                return true;
-            }
-            pause(16);
-        }
-        false
-    }
-
-    /// Wakes all who sleep at a bell.
-    pub fn wake_all<B: Bell>(&self) {
-        self.table.shared.wake_all(B::word());
-    }
-
-    /// Wakes one who sleeps for the lock.
-    pub fn wake_next(&self) {
-        self.table.shared.wake_one(LOCK);
     }
 
     /// Publishes the glance after all calls.
