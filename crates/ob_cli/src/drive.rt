@@ -11,7 +11,7 @@ ghost use Rattle.ob_cli.specs.Inside.{HasKept};
 ghost use Rattle.ob_script.specs.Inside.{ReadingEnds};
 ghost use Rattle.ob_script.specs.Tracing.{GoesThrough, IsWritingFault};
 ghost use Rattle.ob_cli.specs.Run.{first_history};
-ghost use Rattle.ob_cli.specs.Outcome.{IsFaultOfDrive, OfScript};
+ghost use Rattle.ob_cli.specs.Request.{IsFaultOfDrive, OfScript};
 ghost use Rattle.ob_script.specs.Reading.{greatest_script, script_lines};
 ghost use Rattle.ob_cli.specs.declared.request_fault.RequestFault.TheVariants.{Drive, Script};
 

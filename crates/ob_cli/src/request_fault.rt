@@ -17,7 +17,7 @@ pub enum RequestFault {
 
 impl RequestFault {
     ghost use Rattle.std.specs.Prelude.{◌≡◌};
-    ghost use Rattle.ob_cli.specs.Outcome.{status_of};
+    ghost use Rattle.ob_cli.specs.Request.{status_of};
 
     /// The status with which the program ends.
     pub fn status(&self) -> u8

@@ -1,6 +1,6 @@
 ghost use Rattle.std.specs.Prelude.{◌≡◌, ◌⊎◌, ◌<◌, ◌≤◌, None, IfSome, IfOk, IfErr};
 ghost use Rattle.ob_history.specs.History.{most_records, new_history};
-ghost use Rattle.ob_cli.specs.Entry.{exit_status_of};
+ghost use Rattle.ob_cli.specs.Request.{exit_status_of};
 ghost use Rattle.ob_cli.specs.Run.{first_history};
 
 use crate::cli::fault::{CrossedMarks, EntryFault};

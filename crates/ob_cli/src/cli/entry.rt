@@ -6,10 +6,9 @@ ghost use Rattle.ob_cli.specs.Run.{first_history};
 ghost use Rattle.ob_cli.specs.Drive.{WritesReport, drive_grammar, plans_of};
 ghost use Rattle.ob_script.specs.Reading.{script_lines};
 ghost use Rattle.ob_script.specs.Tracing.{GoesThrough, WentThrough, fault_told};
-ghost use Rattle.ob_cli.specs.Outcome.{OfScript, status_of};
+ghost use Rattle.ob_cli.specs.Request.{OfScript, status_of, WritesRequested, requested_fault, requested_trace_of_first};
+ghost use Rattle.ob_cli.specs.Request.{Leaves, status_after};
 ghost use Rattle.ob_cli.specs.declared.request_fault.RequestFault.TheVariants.{Script};
-ghost use Rattle.ob_cli.specs.Request.{WritesRequested, requested_fault, requested_trace_of_first};
-ghost use Rattle.ob_cli.specs.Entry.{Leaves, status_after};
 
 use crate::cli::command_line::request_of;
 use crate::cli::fault::EntryFault;

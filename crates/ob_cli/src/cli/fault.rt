@@ -38,7 +38,7 @@ pub enum EntryFault {
 
 impl EntryFault {
     ghost use Rattle.std.specs.Prelude.{◌≡◌};
-    ghost use Rattle.ob_cli.specs.Entry.{exit_status_of};
+    ghost use Rattle.ob_cli.specs.Request.{exit_status_of};
 
     /// The status with which the program ends.
     pub(crate) fn status(&self) -> u8
@@ -81,7 +81,7 @@ impl EntryFault {
 
 impl From<AllocError> for EntryFault {
     ghost use Rattle.std.specs.Prelude.{◌≡◌};
-    ghost use Rattle.ob_cli.specs.Entry.{exit_status_of};
+    ghost use Rattle.ob_cli.specs.Request.{exit_status_of};
 
     ghost from_gives = { λ _ fault. exit_status_of fault ≡ 4 };
 
@@ -92,7 +92,7 @@ impl From<AllocError> for EntryFault {
 
 impl From<clap::Error> for EntryFault {
     ghost use Rattle.std.specs.Prelude.{◌≡◌, ◌⊎◌};
-    ghost use Rattle.ob_cli.specs.Entry.{exit_status_of};
+    ghost use Rattle.ob_cli.specs.Request.{exit_status_of};
 
     ghost from_gives = { λ _ fault. (exit_status_of fault ≡ 1) ⊎ (exit_status_of fault ≡ 4) };
 

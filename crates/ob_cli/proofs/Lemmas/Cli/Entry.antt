@@ -2,12 +2,11 @@
 use Rattle.std.proofs.Common.{◌≡◌, ◌≤◌, ℕ, arith, List, Option, None, Some, Err, IfSome, append-nil, refl, sym}
 use Rattle.std.specs.Prelude.{IsErrOf}
 use Rattle.std.specs.Io.KnownBytes.{Appends}
-use Rattle.ob_cli.specs.Entry.{WritesTraceOfFirst, WritesWhole}
+use Rattle.ob_cli.specs.Request.{WritesTraceOfFirst, WritesWhole, OfScript, status_of, WritesRequested, requested_fault}
+use Rattle.ob_cli.specs.Request.{requested_trace_of_first}
 use Rattle.ob_script.specs.Tracing.{WentThrough, fault_told}
-use Rattle.ob_cli.specs.Outcome.{OfScript, status_of}
 use Rattle.ob_cli.specs.declared.request_fault.RequestFault.{RequestFault}
 use Rattle.ob_cli.specs.declared.request_fault.RequestFault.TheVariants.{Script, Drive}
-use Rattle.ob_cli.specs.Request.{WritesRequested, requested_fault, requested_trace_of_first}
 use Rattle.ob_script.specs.declared.reading.fault.LineFault.{LineFault}
 use Rattle.ob_cli.specs.declared.cli.request.Request.{Request}
 use Rattle.ob_cli.specs.declared.cli.request.Request.TheVariants.{Core}
