@@ -8,8 +8,8 @@ use mathlib.Core.Option.{Option, none, some, some-injective, some-ne-none}
 use native.Mathlib.Decide.{ℕ_discrete}
 use lib.ListN.{get_elem?}
 use Rattle.atomic_table.specs.Table.{Allows, keeps}
-use Rattle.ob_shared_connection.specs.Ruled.{bell_word, AreCounted, Fits, IsShown, Past, Ruled, resigned_view}
-use Rattle.ob_shared_connection.specs.Ruled.{sending_view}
+use Rattle.ob_shared_connection.specs.Ruled.{bell_word, given_out, glance_word, handles_word, lock_word, role_word, vacant}
+use Rattle.ob_shared_connection.specs.Ruled.{AreCounted, Fits, IsShown, Past, Ruled, resigned_view, sending_view}
 use Rattle.ob_shared_connection.specs.Steps.{Appoints, HasLock, Knows}
 use Rattle.ob_shared_connection.specs.declared.bell.Waiter.{Waiter}
 use Rattle.ob_shared_connection.specs.declared.view.View.{View}
@@ -19,8 +19,8 @@ use Rattle.ob_shared_connection.proofs.Views.{St, Removes, counts_set, fits_set,
 
 -- a word of the role is written: the bells are as they were
 role_bell : (words : List ℕ) (next : ℕ) (waiter : Waiter)
-    → get_or (set words 5 next) (bell_word waiter) 0 ≡ get_or words (bell_word waiter) 0
-role_bell words next waiter = get_or-set_other words 5 (bell_word waiter) next 0 (role_apart waiter)
+    → get_or (set words role_word next) (bell_word waiter) 0 ≡ get_or words (bell_word waiter) 0
+role_bell words next waiter = get_or-set_other words role_word (bell_word waiter) next 0 (role_apart waiter)
 
 -- what a seat knows fits, whoever else sends
 others_fit : (past : Past) (sender : Option ℕ) (seat : ℕ) (view : View) → (view.sends ≡ true → sender ≡ some seat)
@@ -45,22 +45,22 @@ module _ (slots id : ℕ) (me : Knows) where
   passes : (next : ℕ) (sender : Option ℕ) (sends : Bool) → (s : St) (ruled : Ruled s) → get_elem? s.views id ≡ some me.0
       → ((seat : ℕ) (view : View) → seat ≢ id → get_elem? s.views seat ≡ some view → view.sends ≡ true
       → sender ≡ some seat)
-      → Fits (record ruled.past { sender = sender }) id (record me.0 { sends = sends }) → (next ≡ 1 → sender ≡ none)
+      → Fits (record ruled.past { sender = sender }) id (record me.0 { sends = sends }) → (next ≡ vacant → sender ≡ none)
       → Ruled (record {
-        words = set s.words 5 next;
+        words = set s.words role_word next;
         homes = s.homes;
         views = set s.views id (record me.0 { sends = sends });
       })
-  passes next sender sends s ruled at others fresh vacant =
+  passes next sender sends s ruled at others fresh unsent =
       let past = ruled.past in
       let then_past = record past { sender = sender } in
       let new = record me.0 { sends = sends } in
       let words = ruled.words in
-      let unlocked : get_or (set s.words 5 next) 0 0 ≡ get_or s.words 0 0 =
-      get_or-set_other s.words 5 0 next 0 (λ e. omega arith) in
+      let unlocked : get_or (set s.words role_word next) lock_word 0 ≡ get_or s.words lock_word 0 =
+      get_or-set_other s.words role_word lock_word next 0 (λ e. omega arith) in
       record {
         past = then_past;
-        words = length-set s.words 5 next ∙ words;
+        words = length-set s.words role_word next ∙ words;
         free = λ free. (let before = ruled.free (sym unlocked ∙ free) in
             record {
               home = record {
@@ -84,26 +84,27 @@ module _ (slots id : ℕ) (me : Knows) where
         fits = fits_set past then_past s.views id new
             (λ seat view apart there fits. others_fit past sender seat view (others seat view apart there) fits)
             ruled.fits fresh;
-        counts = other_word (λ number. AreCounted past.log number (set s.views id new)) s.words 5 1 next
+        counts = other_word (λ number. AreCounted past.log number (set s.views id new)) s.words role_word handles_word next
             (λ e. omega arith)
-            (counts_set past.log (get_or s.words 1 0) s.views id me.0 new at refl refl ruled.counts);
-        shown = other_word (λ number. IsShown then_past number) s.words 5 2 next (λ e. omega arith) (record {
+            (counts_set past.log (get_or s.words handles_word 0) s.views id me.0 new at refl refl ruled.counts);
+        shown = other_word (λ number. IsShown then_past number) s.words role_word glance_word next (λ e. omega arith) (record {
           begins = ruled.shown.begins;
           legal = ruled.shown.legal;
           published = ruled.shown.published;
           small = ruled.shown.small;
         });
-        role = λ is. vacant (sym (get_or-set_same s.words 5 next 0 (omega arith)) ∙ is);
+        role = λ is. unsent (sym (get_or-set_same s.words role_word next 0 (omega arith)) ∙ is);
       }
 
   -- a seat that has the lock has seen all calls, so that it may send if nobody does
-  appoints : HasLock me → (s : St) (ruled : Ruled s) → get_elem? s.views id ≡ some me.0 → get_or s.words 5 0 ≡ 1
-      → Ruled (record { words = set s.words 5 0; homes = s.homes; views = set s.views id (sending_view me.0) })
+  appoints : HasLock me → (s : St) (ruled : Ruled s) → get_elem? s.views id ≡ some me.0
+      → get_or s.words role_word 0 ≡ vacant
+      → Ruled (record { words = set s.words role_word given_out; homes = s.homes; views = set s.views id (sending_view me.0) })
   appoints lock s ruled at found =
       let past = ruled.past in
       let mine = ruled.fits id me.0 at in
       let whole = mine.whole lock.holds in
-      passes 0 (some id) true s ruled at
+      passes given_out (some id) true s ruled at
       (λ seat view apart there sends. absurd (some-ne-none seat
       (sym ((ruled.fits seat view there).sender_is sends) ∙ ruled.role found)))
       (record {
@@ -122,9 +123,9 @@ module _ (slots id : ℕ) (me : Knows) where
       })
       (λ never. absurd (omega (arith, never)))
 
-  pub may_appoint : HasLock me → Allows Ruled slots id me 5 (λ _. 0) (Appoints me)
+  pub may_appoint : HasLock me → Allows Ruled slots id me role_word (λ _. given_out) (Appoints me)
   may_appoint lock s ruled homes at small =
-      dite (ℕ_discrete (get_or s.words 5 0) 1)
+      dite (ℕ_discrete (get_or s.words role_word 0) vacant)
       (λ found. (
         sending_view me.0,
         keeps,
@@ -137,24 +138,25 @@ module _ (slots id : ℕ) (me : Knows) where
         keeps,
         tt,
         (let words = ruled.words in
-            same_views slots id me 5 0 s ruled at
-            (λ free. sym (get_or-set_other s.words 5 0 0 0 (λ e. omega arith)) ∙ free)
-            (λ free. get_or-set_other s.words 5 0 0 0 (λ e. omega arith) ∙ free)
-            (get_or-set_other s.words 5 1 0 0 (λ e. omega arith)) (get_or-set_other s.words 5 2 0 0 (λ e. omega arith))
-            (role_bell s.words 0)
-            (λ vacant. absurd (omega (arith, sym (get_or-set_same s.words 5 0 0 (omega arith)) ∙ vacant)))),
+            same_views slots id me role_word given_out s ruled at
+            (λ free. sym (get_or-set_other s.words role_word lock_word given_out 0 (λ e. omega arith)) ∙ free)
+            (λ free. get_or-set_other s.words role_word lock_word given_out 0 (λ e. omega arith) ∙ free)
+            (get_or-set_other s.words role_word handles_word given_out 0 (λ e. omega arith))
+            (get_or-set_other s.words role_word glance_word given_out 0 (λ e. omega arith))
+            (role_bell s.words given_out)
+            (λ is. absurd (omega (arith, sym (get_or-set_same s.words role_word given_out 0 (omega arith)) ∙ is)))),
         record { sends = λ found. absurd (other found); kept = λ _. refl },
       ))
 
   -- the seat that sends may give the role up
   pub may_resign : me.0.sends ≡ true
-      → Allows Ruled slots id me 5 (λ _. 1) (λ _ new. new ≡ (resigned_view me.0, me.1))
+      → Allows Ruled slots id me role_word (λ _. vacant) (λ _ new. new ≡ (resigned_view me.0, me.1))
   may_resign sends s ruled homes at small =
       let mine = ruled.fits id me.0 at in (
         resigned_view me.0,
         keeps,
         tt,
-        passes 1 none false s ruled at
+        passes vacant none false s ruled at
             (λ seat view apart there other. absurd (apart (some-injective seat id
             (sym ((ruled.fits seat view there).sender_is other) ∙ mine.sender_is sends))))
             (record {

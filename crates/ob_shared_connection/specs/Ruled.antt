@@ -26,10 +26,34 @@ use Rattle.ob_shared_connection.specs.declared.shared.Shared.{Shared}
 use Rattle.ob_shared_connection.specs.declared.view.Bells.{Bells}
 use Rattle.ob_shared_connection.specs.declared.view.View.{View}
 
+-- the word that is the lock
+abbrev pub lock_word : ℕ
+lock_word = 0
+
+-- the word that counts the handles that there ever were
+abbrev pub handles_word : ℕ
+handles_word = 1
+
+-- the word that is published
+abbrev pub glance_word : ℕ
+glance_word = 2
+
 -- the word that is the bell
 abbrev pub bell_word : Waiter → ℕ
 bell_word Writer = 3
 bell_word Sender = 4
+
+-- the word that tells if nobody sends
+abbrev pub role_word : ℕ
+role_word = 5
+
+-- what that word is if a handle sends, or was lost with the role
+abbrev pub given_out : ℕ
+given_out = 0
+
+-- what it is if nobody sends
+abbrev pub vacant : ℕ
+vacant = 1
 
 -- nothing is known of them, and nothing is owed
 abbrev pub unheard : Bells
@@ -306,21 +330,21 @@ pub record IsBell (waiter : Waiter) (past : Past) (lock bell : ℕ) (views : Lis
   pub known : (seat : ℕ) (view : View) → get_elem? views seat ≡ some view → view.holds ≡ true
       → is_silent waiter view.bells ≡ true → bell ≡ 0
 
--- if this number is 1, nobody sends
+-- if this number says that nobody sends, nobody does
 abbrev pub IsVacant : Past → ℕ → Type 0
-IsVacant past number = number ≡ 1 → past.sender ≡ none
+IsVacant past number = number ≡ vacant → past.sender ≡ none
 
--- there is one list of calls, which the views of all seats fit; while the first word is 0 the connection is at home, and
--- else a handle has it; the second counts the handles, the third is published, the two after it are bells, and the next one
--- tells that nobody sends
+-- there is one list of calls, which the views of all seats fit; while the lock is free the connection is at home, and else
+-- a handle has it; each other word is what its name says
 pub record Ruled (state : State Carried View) : Type 0 where
   pub past : Past
   pub words : length state.words ≡ 6
-  pub free : slice_index state.words 0 ≡ 0 → IsFree past state.homes state.views
+  pub free : slice_index state.words lock_word ≡ 0 → IsFree past state.homes state.views
   pub fits : AllFit past state.views
-  pub taken : slice_index state.words 0 ≢ 0 → IsTaken state.views
-  pub counts : AreCounted past.log (slice_index state.words 1) state.views
+  pub taken : slice_index state.words lock_word ≢ 0 → IsTaken state.views
+  pub counts : AreCounted past.log (slice_index state.words handles_word) state.views
   pub shares : AreShared state.views
-  pub bells : (waiter : Waiter) → IsBell waiter past (slice_index state.words 0) (slice_index state.words (bell_word waiter)) state.views
-  pub shown : IsShown past (slice_index state.words 2)
-  pub role : IsVacant past (slice_index state.words 5)
+  pub bells : (waiter : Waiter) →
+      IsBell waiter past (slice_index state.words lock_word) (slice_index state.words (bell_word waiter)) state.views
+  pub shown : IsShown past (slice_index state.words glance_word)
+  pub role : IsVacant past (slice_index state.words role_word)

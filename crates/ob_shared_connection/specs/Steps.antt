@@ -6,7 +6,7 @@ use Rattle.ob_seq.specs.Unsent.{nothing_unsent}
 use Rattle.ob_connection.specs.Connected.{Connected}
 use Rattle.ob_covered.specs.Cover.{CoverValue}
 use Rattle.ob_shared_connection.specs.Ruled.{awaited, is_owed, is_silent, silent, unheard, hearing_view, held_view}
-use Rattle.ob_shared_connection.specs.Ruled.{named_view, seeing_view, sending_view, settings_of, shown_view}
+use Rattle.ob_shared_connection.specs.Ruled.{named_view, seeing_view, sending_view, settings_of, shown_view, vacant}
 use Rattle.ob_shared_connection.specs.Values.{IsCovered, cover_of, IsBeginning, commands_by, commands_of, NoneRemoves}
 use Rattle.ob_shared_connection.specs.Values.{HandleValue, Held, IsLeftBy, IsLegal, glance_after, packed_glance, is_due}
 use Rattle.ob_shared_connection.specs.Values.{moment_after}
@@ -144,8 +144,8 @@ pub record Finds (number : ℕ) (old : Knows) (found : ℕ) (new : Knows) : Type
 
 -- the seat that has the lock sends from now on if it found that nobody does, and else nothing changes
 pub record Appoints (old : Knows) (found : ℕ) (new : Knows) : Type 0 where
-  pub sends : found ≡ 1 → new ≡ (sending_view old.0, old.1)
-  pub kept : found ≢ 1 → new ≡ old
+  pub sends : found ≡ vacant → new ≡ (sending_view old.0, old.1)
+  pub kept : found ≢ vacant → new ≡ old
 
 -- a seat gets its number if it found what it had expected, and else nothing changes
 pub record Names (expected : ℕ) (old : Knows) (found : ℕ) (new : Knows) : Type 0 where
