@@ -65,7 +65,7 @@ extern "C" {
 
 /* A number of the structs, functions and numbers of this header. limekeel_open says LIMEKEEL_OTHER_VERSION to an archive of
  * another. Before 1.0 each version may have another. */
-#define LIMEKEEL_EDGE 524525967u
+#define LIMEKEEL_EDGE 3279013865u
 
 /* What may tell a change of writability is not to be dropped. */
 #if (defined(__cplusplus) && __cplusplus >= 201703L) || (defined(__STDC_VERSION__) && __STDC_VERSION__ >= 202311L)
@@ -415,9 +415,12 @@ struct limekeel_pressed_done {
     uint32_t pressure;
 };
 
+/* The numbers of a limekeel_written, of which the change has two bytes here. */
 struct limekeel_pressed_written {
-    struct limekeel_written written;
-    uint32_t pressure;
+    uint32_t status;
+    uint16_t change;
+    uint16_t pressure;
+    uint64_t id;
 };
 
 struct limekeel_pressed_written_and_flushed {
@@ -425,9 +428,12 @@ struct limekeel_pressed_written_and_flushed {
     uint32_t pressure;
 };
 
+/* The numbers of a limekeel_flushed, in the same way. */
 struct limekeel_pressed_flushed {
-    struct limekeel_flushed flushed;
-    uint32_t pressure;
+    uint32_t status;
+    uint16_t change;
+    uint16_t pressure;
+    uint64_t count;
 };
 
 struct limekeel_pressed_removed {
@@ -501,9 +507,11 @@ LIMEKEEL_LAYOUT(limekeel_budget, 8, at, 0);
 LIMEKEEL_LAYOUT(limekeel_budgeted, 8, at, 0);
 LIMEKEEL_LAYOUT(limekeel_budget_told, 16, total, 8);
 LIMEKEEL_LAYOUT(limekeel_pressed_done, 8, pressure, 4);
-LIMEKEEL_LAYOUT(limekeel_pressed_written, 24, pressure, 16);
+LIMEKEEL_LAYOUT(limekeel_pressed_written, 16, id, 8);
+LIMEKEEL_LAYOUT(limekeel_pressed_written, 16, pressure, 6);
 LIMEKEEL_LAYOUT(limekeel_pressed_written_and_flushed, 40, pressure, 32);
-LIMEKEEL_LAYOUT(limekeel_pressed_flushed, 24, pressure, 16);
+LIMEKEEL_LAYOUT(limekeel_pressed_flushed, 16, count, 8);
+LIMEKEEL_LAYOUT(limekeel_pressed_flushed, 16, pressure, 6);
 LIMEKEEL_LAYOUT(limekeel_pressed_removed, 40, pressure, 32);
 LIMEKEEL_LAYOUT(limekeel_pressed_taken, 48, pressure, 40);
 LIMEKEEL_LAYOUT(limekeel_pressed_cancelled, 12, pressure, 8);
@@ -1125,12 +1133,12 @@ LIMEKEEL_TOLD static inline struct limekeel_pressed_written limekeel_budgeted_wr
 }
 
 /* A message that was written where it was made keeps its bytes there. */
-static inline void limekeel_keep_reserved(struct limekeel_rooms *rooms, struct limekeel_written written, size_t length)
+static inline void limekeel_keep_reserved(struct limekeel_rooms *rooms, uint32_t status, uint64_t id, size_t length)
 {
-    if (written.status == LIMEKEEL_OK && rooms->at) {
+    if (status == LIMEKEEL_OK && rooms->at) {
         rooms->at += length;
         rooms->left -= length;
-        rooms->end = written.id + 1;
+        rooms->end = id + 1;
 #ifdef __GNUC__
         /* The next message comes when others had theirs: without this it waits for the memory that it is made in. */
         __builtin_prefetch(rooms->at + 64, 1);
@@ -1142,7 +1150,7 @@ LIMEKEEL_TOLD static inline struct limekeel_written limekeel_write_reserved(stru
                                                                             struct limekeel_connection *connection, size_t length)
 {
     struct limekeel_written written = limekeel_write_lent(connection, rooms->at, length);
-    limekeel_keep_reserved(rooms, written, length);
+    limekeel_keep_reserved(rooms, written.status, written.id, length);
     return written;
 }
 
@@ -1150,7 +1158,7 @@ LIMEKEEL_TOLD static inline struct limekeel_written limekeel_managed_write_reser
                                                                                     struct limekeel_managed *managed, size_t length)
 {
     struct limekeel_written written = limekeel_managed_write_lent(managed, rooms->at, length);
-    limekeel_keep_reserved(rooms, written, length);
+    limekeel_keep_reserved(rooms, written.status, written.id, length);
     return written;
 }
 
@@ -1159,7 +1167,7 @@ LIMEKEEL_TOLD static inline struct limekeel_pressed_written limekeel_budgeted_wr
                                                                                              size_t length)
 {
     struct limekeel_pressed_written told = limekeel_budgeted_write_lent(budgeted, rooms->at, length);
-    limekeel_keep_reserved(rooms, told.written, length);
+    limekeel_keep_reserved(rooms, told.status, told.id, length);
     return told;
 }
 

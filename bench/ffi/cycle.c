@@ -68,9 +68,9 @@ static struct limekeel_budget budget = LIMEKEEL_BUDGET;
 static void put_within(struct limekeel_budgeted *connection, bool copied)
 {
     if (copied)
-        must(limekeel_budgeted_write(connection, bytes, SIZE).written.status);
+        must(limekeel_budgeted_write(connection, bytes, SIZE).status);
     else
-        must(limekeel_budgeted_write_block(connection, &shared).written.status);
+        must(limekeel_budgeted_write_block(connection, &shared).status);
 }
 
 static void cycles_within(void *queue, bool copied)
@@ -78,7 +78,7 @@ static void cycles_within(void *queue, bool copied)
     struct limekeel_budgeted *connection = queue;
     for (int at = 0; at < MESSAGES; at++) {
         put_within(connection, copied);
-        must(limekeel_budgeted_flush(connection).flushed.status);
+        must(limekeel_budgeted_flush(connection).status);
         must(limekeel_budgeted_remove(connection).removed.status);
     }
 }
@@ -89,7 +89,7 @@ static void batches_within(void *queue, bool copied)
     for (int at = 0; at < MESSAGES / BATCH; at++) {
         for (int message = 0; message < BATCH; message++)
             put_within(connection, copied);
-        must(limekeel_budgeted_flush(connection).flushed.status);
+        must(limekeel_budgeted_flush(connection).status);
         struct limekeel_piece pieces[BATCH];
         struct limekeel_gathered front = limekeel_budgeted_gather(connection, pieces, BATCH, UINT32_MAX);
         must(front.count == BATCH ? front.status : 1);
@@ -133,7 +133,7 @@ static void time_within(int depth, bool copied)
     must(limekeel_open_within(&connection, 32768, 65536, 96, 8, &budget));
     for (int at = 0; at < depth; at++)
         put_within(&connection, true);
-    must(limekeel_budgeted_flush(&connection).flushed.status);
+    must(limekeel_budgeted_flush(&connection).status);
     double cycle = least(&connection, copied, cycles_within);
     tell(copied ? "c-within" : "c-shared-within", depth, cycle, least(&connection, copied, batches_within));
     must(limekeel_budgeted_free(&connection).status);

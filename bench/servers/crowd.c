@@ -56,7 +56,7 @@ static uint64_t total(void)
 static bool is_written(struct limekeel_budgeted *one)
 {
     uint64_t before = total();
-    uint32_t status = limekeel_budgeted_write(one, bytes, size).written.status;
+    uint32_t status = limekeel_budgeted_write(one, bytes, size).status;
     writes++;
     uint64_t after = total();
     if (status == LIMEKEEL_OVER_BUDGET) {
@@ -64,7 +64,7 @@ static bool is_written(struct limekeel_budgeted *one)
         return false;
     }
     expect("it is written", status == LIMEKEEL_OK && after == before + size + OVERHEAD);
-    expect("and flushed", limekeel_budgeted_flush(one).flushed.count == 1);
+    expect("and flushed", limekeel_budgeted_flush(one).count == 1);
     return true;
 }
 

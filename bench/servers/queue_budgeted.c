@@ -78,8 +78,8 @@ static enum written what_came(uint32_t status, uint32_t pressure)
 
 static enum written was_written(struct queue *queue, struct limekeel_pressed_written told)
 {
-    note(queue, told.written.change);
-    return what_came(told.written.status, told.pressure);
+    note(queue, told.change);
+    return what_came(told.status, told.pressure);
 }
 
 /* The budget is asked before the response is made, and so none is made in vain. Behind it the processor would let all its bytes go
@@ -152,7 +152,7 @@ static void note_taken(struct queue *queue, uint64_t bytes)
 enum sent queue_send(struct queue *queue, int socket, uint32_t turns)
 {
     struct limekeel_pressed_flushed flushed = limekeel_budgeted_flush(&queue->connection);
-    note(queue, flushed.flushed.change);
+    note(queue, flushed.change);
     note_pressure(flushed.pressure);
     struct limekeel_pressed_sent told = limekeel_budgeted_send(&queue->connection, socket, turns);
     note(queue, told.sent.taken.change);

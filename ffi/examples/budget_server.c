@@ -133,17 +133,17 @@ static bool answer(struct client *client, uint64_t size)
     size_t length = lay_out(bytes, size);
     for (;;) {
         struct limekeel_pressed_written told = limekeel_budgeted_write(&client->budgeted, bytes, length);
-        note(client, told.written.change);
+        note(client, told.change);
         note_pressure(told.pressure);
-        if (told.written.status == LIMEKEEL_OK)
+        if (told.status == LIMEKEEL_OK)
             break;
-        if (told.written.status != LIMEKEEL_OVER_BUDGET)
+        if (told.status != LIMEKEEL_OVER_BUDGET)
             return client->gone = true;
         if (pattern != SLOWEST || !give_up_the_slowest())
             return false;
     }
     struct limekeel_pressed_flushed told = limekeel_budgeted_flush(&client->budgeted);
-    note(client, told.flushed.change);
+    note(client, told.change);
     note_pressure(told.pressure);
     send_some(client);
     return true;

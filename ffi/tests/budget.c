@@ -52,7 +52,7 @@ static bool stands(struct limekeel_budget *budget, struct limekeel_budgeted *bud
 
 static bool was(struct limekeel_pressed_written told, uint32_t status, uint32_t pressure)
 {
-    return told.written.status == status && told.pressure == pressure;
+    return told.status == status && told.pressure == pressure;
 }
 
 /* Whether it is gone for good, and by which change of pressure. */
@@ -83,12 +83,12 @@ static void holds_nothing(void)
         limekeel_budgeted_rest(&none).status,
         limekeel_budgeted_cover(&none, 1).status,
         limekeel_budgeted_look_at_budget(&none).status,
-        limekeel_budgeted_write(&none, "x", 1).written.status,
-        limekeel_budgeted_write_lent(&none, "x", 1).written.status,
-        limekeel_budgeted_write_block(&none, &block).written.status,
-        limekeel_budgeted_write_region(&none, 1).written.status,
-        limekeel_budgeted_write_other(&none, 1).written.status,
-        limekeel_budgeted_flush(&none).flushed.status,
+        limekeel_budgeted_write(&none, "x", 1).status,
+        limekeel_budgeted_write_lent(&none, "x", 1).status,
+        limekeel_budgeted_write_block(&none, &block).status,
+        limekeel_budgeted_write_region(&none, 1).status,
+        limekeel_budgeted_write_other(&none, 1).status,
+        limekeel_budgeted_flush(&none).status,
         limekeel_budgeted_progress(&none, 1).status,
         limekeel_budgeted_cancel(&none, 0).cancelled.status,
         limekeel_budgeted_user_bit(&none, 1, false).changed.status,
@@ -133,7 +133,7 @@ static void keeps_within(void)
         uint32_t pressure = count == 9 ? LIMEKEEL_PRESSURE_BEGAN : LIMEKEEL_PRESSURE_UNCHANGED;
         struct limekeel_pressed_written told = count % 2 ? limekeel_budgeted_write(&slow, "four", 4) :
                                                            limekeel_budgeted_write_block(&slow, &block);
-        expect("it is written", was(told, LIMEKEEL_OK, pressure) && told.written.id == count - 1);
+        expect("it is written", was(told, LIMEKEEL_OK, pressure) && told.id == count - 1);
         expect("and counted", stands(&budget, &fast, count * 100, count >= 9));
     }
     expect("no room for a copy", was(limekeel_budgeted_write(&fast, "four", 4), LIMEKEEL_OVER_BUDGET, 0));
@@ -142,7 +142,7 @@ static void keeps_within(void)
     expect("for a region", was(limekeel_budgeted_write_region(&fast, 7), LIMEKEEL_OVER_BUDGET, 0));
     expect("for another", was(limekeel_budgeted_write_other(&fast, 7), LIMEKEEL_OVER_BUDGET, 0));
     expect("nothing is pending", limekeel_budgeted_look(&fast).total == 0 && limekeel_budgeted_state(&fast).held == 0);
-    expect("flushed", limekeel_budgeted_flush(&slow).flushed.count == 10);
+    expect("flushed", limekeel_budgeted_flush(&slow).count == 10);
     struct limekeel_pressed_taken taken = limekeel_budgeted_take_sent(&slow, 30);
     expect("seven are gone", taken.taken.count == 7 && taken.pressure == 0 && stands(&budget, &fast, 300, true));
     struct limekeel_pressed_removed removed = limekeel_budgeted_remove(&slow);
@@ -150,7 +150,7 @@ static void keeps_within(void)
     removed = limekeel_budgeted_remove_with(&slow, 5);
     expect("it ends", removed.removed.cause == 5 && removed.pressure == LIMEKEEL_PRESSURE_ENDED && stands(&budget, &slow, 100, false));
     for (int count = 0; count < 8; count++)
-        expect("the other has room", limekeel_budgeted_write(&fast, "four", 4).written.status == LIMEKEEL_OK);
+        expect("the other has room", limekeel_budgeted_write(&fast, "four", 4).status == LIMEKEEL_OK);
     struct limekeel_pressed_taken left = limekeel_budgeted_give_up(&fast, 9);
     expect("all is given up", left.taken.count == 8 && left.taken.cause == 9 && left.pressure == LIMEKEEL_PRESSURE_ENDED);
     expect("closed", was(limekeel_budgeted_write(&fast, "x", 1), LIMEKEEL_CLOSED, 0) && limekeel_budgeted_state(&fast).closed);
@@ -185,7 +185,7 @@ static void keeps_quanta(void)
         expect("it is written", was(limekeel_budgeted_write(&one, "four", 4), LIMEKEEL_OK, pressure));
         expect("by quanta", limekeel_budgeted_state(&one).held == held[at]);
     }
-    expect("flushed", limekeel_budgeted_flush(&one).flushed.count == 5);
+    expect("flushed", limekeel_budgeted_flush(&one).count == 5);
     expect("sent", limekeel_budgeted_take_sent(&one, 20).taken.count == 5 && stands(&budget, &one, 500, true));
     struct limekeel_pressed_done rest = limekeel_budgeted_rest(&one);
     expect("a rest", rest.status == LIMEKEEL_OK && rest.pressure == LIMEKEEL_PRESSURE_ENDED && stands(&budget, &one, 0, false));
@@ -200,14 +200,14 @@ static void is_a_connection(void)
 {
     struct limekeel_budget budget = budget_of(100000, 200, 50000, 0);
     struct limekeel_budgeted one = within(&budget);
-    expect("a region", limekeel_budgeted_write_region(&one, 50).written.id == 0);
-    expect("another", limekeel_budgeted_write_other(&one, 5).written.id == 1);
-    expect("lent", limekeel_budgeted_write_lent(&one, "lent", 4).written.id == 2);
-    expect("copied", limekeel_budgeted_write(&one, "last", 4).written.id == 3);
+    expect("a region", limekeel_budgeted_write_region(&one, 50).id == 0);
+    expect("another", limekeel_budgeted_write_other(&one, 5).id == 1);
+    expect("lent", limekeel_budgeted_write_lent(&one, "lent", 4).id == 2);
+    expect("copied", limekeel_budgeted_write(&one, "last", 4).id == 3);
     struct limekeel_pressed_cancelled cancelled = limekeel_budgeted_cancel(&one, 2);
     expect("in time", cancelled.cancelled.in_time && cancelled.pressure == 0);
     expect("settled", limekeel_budgeted_promise(&one, 2).state == LIMEKEEL_SETTLED);
-    expect("flushed", limekeel_budgeted_flush(&one).flushed.count == 4 && limekeel_budgeted_front(&one).id == 0);
+    expect("flushed", limekeel_budgeted_flush(&one).count == 4 && limekeel_budgeted_front(&one).id == 0);
     struct limekeel_pressed_done done = limekeel_budgeted_progress(&one, 20);
     expect("30 are left", done.status == LIMEKEEL_OK && limekeel_budgeted_current(&one).number == 30);
     expect("the region is sent", limekeel_budgeted_remove(&one).removed.id == 0);
@@ -239,7 +239,7 @@ static void sends(void)
     for (size_t at = 0; at < sizeof(bytes); at++)
         bytes[at] = (uint8_t)(at * 7 + at / 251);
     expect("written", was(limekeel_budgeted_write(&one, bytes, sizeof(bytes)), LIMEKEEL_OK, LIMEKEEL_PRESSURE_BEGAN));
-    expect("flushed", limekeel_budgeted_flush(&one).flushed.count == 1);
+    expect("flushed", limekeel_budgeted_flush(&one).count == 1);
     uint32_t ended = 0;
     for (size_t came = 0; came < sizeof(bytes);) {
         struct limekeel_pressed_sent told = limekeel_budgeted_send(&one, pair[0], 16);
@@ -287,8 +287,8 @@ static void *works(void *at)
     for (int round = 0; round < rounds; round++) {
         struct limekeel_pressed_written told = limekeel_budgeted_write(&one, "four", 4);
         counts(worker, told.pressure);
-        bool refused = told.written.status == LIMEKEEL_OVER_BUDGET || told.written.status == LIMEKEEL_BUSY;
-        expect("it is written, or finds no room", refused || told.written.status == LIMEKEEL_OK);
+        bool refused = told.status == LIMEKEEL_OVER_BUDGET || told.status == LIMEKEEL_BUSY;
+        expect("it is written, or finds no room", refused || told.status == LIMEKEEL_OK);
         worker->refused += refused;
         worker->written += !refused;
         struct limekeel_budget_told look = limekeel_budget_look(&worker->budget);

@@ -97,12 +97,12 @@ static void writes(struct worker *worker, struct link *link)
     struct limekeel_pressed_written told = limekeel_budgeted_write(&link->budgeted, bytes, size);
     counts(worker, told.pressure);
     uint32_t after = limekeel_budgeted_look(&link->budgeted).total;
-    if (told.written.status == LIMEKEEL_OK) {
+    if (told.status == LIMEKEEL_OK) {
         expect("it is counted", after == before + size + 96);
         link->written += size;
         worker->writes++;
     } else {
-        expect("no room", told.written.status == LIMEKEEL_OVER_BUDGET || told.written.status == LIMEKEEL_BUSY);
+        expect("no room", told.status == LIMEKEEL_OVER_BUDGET || told.status == LIMEKEEL_BUSY);
         expect("nothing changed", after == before);
         worker->refused++;
     }

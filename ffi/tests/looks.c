@@ -103,8 +103,8 @@ static void looks_within(struct limekeel_block *block)
     expect("budget", limekeel_budget_open(budget, 1000, 100, 200, 0) == LIMEKEEL_OK);
     expect("open", limekeel_open_within(budgeted, 100, 200, 96, 8, budget) == LIMEKEEL_OK);
     may_be_written(&handles, false);
-    expect("write", limekeel_budgeted_write_block(budgeted, block).written.status == LIMEKEEL_OK);
-    expect("flush", limekeel_budgeted_flush(budgeted).flushed.count == 1);
+    expect("write", limekeel_budgeted_write_block(budgeted, block).status == LIMEKEEL_OK);
+    expect("flush", limekeel_budgeted_flush(budgeted).count == 1);
     may_be_written(&heap, false);
     look_at_budgeted(budgeted);
     may_be_written(&heap, true);

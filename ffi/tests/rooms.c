@@ -246,12 +246,12 @@ static void of_one_within_a_budget(void)
     expect("a budget", limekeel_budget_open(&budget, 300, 100, 150, 0) == LIMEKEEL_OK);
     expect("open", limekeel_open_within(&budgeted, 32768, 65536, 96, 8, &budget) == LIMEKEEL_OK);
     struct limekeel_pressed_written told = limekeel_budgeted_write_reserved(&own, &budgeted, made_of(&own, "one"));
-    expect("first", told.written.id == 0 && told.pressure == LIMEKEEL_PRESSURE_UNCHANGED);
+    expect("first", told.id == 0 && told.pressure == LIMEKEEL_PRESSURE_UNCHANGED);
     told = limekeel_budgeted_write_reserved(&own, &budgeted, made_of(&own, "and two"));
-    expect("second", told.written.id == 1 && told.pressure == LIMEKEEL_PRESSURE_BEGAN);
+    expect("second", told.id == 1 && told.pressure == LIMEKEEL_PRESSURE_BEGAN);
     told = limekeel_budgeted_write_reserved(&own, &budgeted, made_of(&own, "three"));
-    expect("over the budget", told.written.status == LIMEKEEL_OVER_BUDGET);
-    expect("flush", limekeel_budgeted_flush(&budgeted).flushed.count == 2);
+    expect("over the budget", told.status == LIMEKEEL_OVER_BUDGET);
+    expect("flush", limekeel_budgeted_flush(&budgeted).count == 2);
     came(pieces, (uint32_t)limekeel_budgeted_gather(&budgeted, pieces, 2, UINT32_MAX).count, "one", "and two");
     struct limekeel_pressed_taken gone = limekeel_budgeted_take_sent(&budgeted, 10);
     expect("pressure ends", gone.pressure == LIMEKEEL_PRESSURE_ENDED);

@@ -119,35 +119,47 @@ pressure_number (Some Began) = 1
 pressure_number (Some Ended) = 2
 
 -- what a command has to report, and the number of the turn of pressure
-abbrev pub settled : {A : Type 0} → Option (Told (Result A Refusal)) → Result A ℕ × ℕ
-settled None = (Err not_open, 0)
-settled (Some told) = (accepted (Some told.answer), pressure_number told.pressure)
+abbrev pub command_told : {A : Type 0} → Option (Told (Result A Refusal)) → Result A ℕ × ℕ
+command_told None = (Err not_open, 0)
+command_told (Some told) = (accepted (Some told.answer), pressure_number told.pressure)
 
 -- the status of a write that was refused
-abbrev pub fault_number : WriteFault → ℕ
-fault_number (Refused refusal) = number_of refusal
-fault_number (OverBudget Full) = over_budget
-fault_number (OverBudget Busy) = busy
+abbrev pub budgeted_fault_number : WriteFault → ℕ
+budgeted_fault_number (Refused refusal) = number_of refusal
+budgeted_fault_number (OverBudget Full) = over_budget
+budgeted_fault_number (OverBudget Busy) = busy
 
 -- the reply to a write, or the status of its refusal
 abbrev pub reply_of : Result WrittenReply WriteFault → Result WrittenReply ℕ
-reply_of (Err why) = Err (fault_number why)
+reply_of (Err why) = Err (budgeted_fault_number why)
 reply_of (Ok reply) = Ok reply
 
 -- what a write has to report, and the number of the turn of pressure
-abbrev pub settled_write : Option (Told (Result WrittenReply WriteFault)) → Result WrittenReply ℕ × ℕ
-settled_write None = (Err not_open, 0)
-settled_write (Some told) = (reply_of told.answer, pressure_number told.pressure)
+abbrev pub write_told : Option (Told (Result WrittenReply WriteFault)) → Result WrittenReply ℕ × ℕ
+write_told None = (Err not_open, 0)
+write_told (Some told) = (reply_of told.answer, pressure_number told.pressure)
 
 -- a reply, and how pressure changed
 abbrev pub pressed_done_in_c : Result ⊤ ℕ × ℕ → PressedDone
 pressed_done_in_c told = record { status = status_in_c told.0; pressure = told.1 }
 
+-- a write: each number is that of a connection without a budget, and so is the change, which is at most 2
 abbrev pub pressed_written_in_c : Result WrittenReply ℕ × ℕ → PressedWritten
-pressed_written_in_c told = record { written = written_in_c told.0; pressure = told.1 }
+pressed_written_in_c told = record {
+  status = (written_in_c told.0).status;
+  change = (written_in_c told.0).change;
+  pressure = told.1;
+  id = (written_in_c told.0).id;
+}
 
+-- a flush: the same
 abbrev pub pressed_flushed_in_c : Result FlushedReply ℕ × ℕ → PressedFlushed
-pressed_flushed_in_c told = record { flushed = flushed_in_c told.0; pressure = told.1 }
+pressed_flushed_in_c told = record {
+  status = (flushed_in_c told.0).status;
+  change = (flushed_in_c told.0).change;
+  pressure = told.1;
+  count = (flushed_in_c told.0).count;
+}
 
 abbrev pub pressed_removed_in_c : Result RemovedReply ℕ × ℕ → PressedRemoved
 pressed_removed_in_c told = record { removed = removed_in_c told.0; pressure = told.1 }
@@ -170,7 +182,7 @@ Settles does old told new =
 -- the same of a handle: C is told the answer, and the turn of pressure
 abbrev pub SettlesFor : {A C : Type 0} → Option BudgetedValue → (Connected → Result A Refusal → Connected → Type 0)
     → (Result A ℕ × ℕ → C) → C → Option BudgetedValue → Type 0
-SettlesFor handle does in_c told new = Relays handle (Settles does) (λ answer. in_c (settled answer)) told new
+SettlesFor handle does in_c told new = Relays handle (Settles does) (λ answer. in_c (command_told answer)) told new
 
 -- marks are set, if there is a connection and they are marks
 abbrev pub SetsMarksWithin : Option BudgetedValue → Result Marks Refusal → PressedDone → Option BudgetedValue → Type 0
@@ -183,7 +195,7 @@ SetsMarksWithin (Some old) (Ok marks) told new =
 -- a message is written within the budget by the connection of a handle
 abbrev pub WritesFor : Option BudgetedValue → Message → PressedWritten → Option BudgetedValue → Type 0
 WritesFor handle message told new =
-    Relays handle (WritesWithin (λ why. why) message) (λ answer. pressed_written_in_c (settled_write answer)) told new
+    Relays handle (WritesWithin (λ why. why) message) (λ answer. pressed_written_in_c (write_told answer)) told new
 
 -- the bytes of a block are written, if there are both a connection and a block
 abbrev pub WritesBlockWithin : Option BudgetedValue → Option (List ℕ) → PressedWritten → Option BudgetedValue → Type 0

@@ -3,14 +3,14 @@
 ghost use Rattle.std.specs.Prelude.{◌≡◌, IsSome, is_some, Option, Some, None, option_map};
 ghost use Rattle.std.specs.Fn.{FnOnceReturnsAtMut};
 ghost use Rattle.std.specs.Borrow.{sem};
-ghost use Rattle.ob_c.specs.Budgets.{settled, settled_write};
+ghost use Rattle.ob_c.specs.Budgets.{command_told, write_told};
 ghost use Rattle.ob_c.specs.Held.{held};
 ghost use Rattle.ob_c.specs.Calls.{Relays};
 ghost use Rattle.ob_covered.specs.Budgeted.{BudgetedValue};
 ghost use Rattle.ob_covered.specs.contracts.budgeted.Budgeted.{the_row as covered_row};
 
 use crate::loose::Loose;
-use crate::pressed::{settled, settled_write};
+use crate::pressed::{command_told, write_told};
 use ob_connection::Written;
 use ob_covered::{Told, WriteFault};
 use ob_types::Refusal;
@@ -66,24 +66,24 @@ impl Budgeted {
     pub(crate) fn command<T, F: FnOnce(&mut ob_covered::Budgeted) -> Told<Result<T, Refusal>>>(
         &mut self,
         call: F,
-    ) -> (Result<T, u32>, u32)
+    ) -> (Result<T, u32>, u16)
         requires { F.IsAlwaysCallable call }
-        ensures { Relays self.old.value (λ old told after. FnOnceReturnsAtMut F.FnOnce call old told after) settled
+        ensures { Relays self.old.value (λ old told after. FnOnceReturnsAtMut F.FnOnce call old told after) command_told
             result self.new.value }
     {
-        settled(self.with(call))
+        command_told(self.with(call))
     }
 
     /// Writes to the connection, and returns what there is to report, and the number of the turn of pressure.
     pub(crate) fn write<F: FnOnce(&mut ob_covered::Budgeted) -> Told<Result<Written, WriteFault>>>(
         &mut self,
         call: F,
-    ) -> (Result<Written, u32>, u32)
+    ) -> (Result<Written, u32>, u16)
         requires { F.IsAlwaysCallable call }
-        ensures { Relays self.old.value (λ old told after. FnOnceReturnsAtMut F.FnOnce call old told after) settled_write
+        ensures { Relays self.old.value (λ old told after. FnOnceReturnsAtMut F.FnOnce call old told after) write_told
             result self.new.value }
     {
-        settled_write(self.with(call))
+        write_told(self.with(call))
     }
 
     /// Puts a connection in.

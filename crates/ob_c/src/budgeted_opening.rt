@@ -89,7 +89,7 @@ pub extern "C" fn limekeel_budgeted_free(alloc: Global, budgeted: &mut Budgeted)
             pressure: 0,
         };
     };
-    let pressure = pressure_number(pressure);
+    let pressure = u32::from(pressure_number(pressure));
     if held > 0 {
         return PressedDone {
             status: BUSY,

@@ -1,18 +1,18 @@
 //! What the calls of a connection that a budget covers return to C: a reply, and how pressure at the budget changed.
 
 ghost use Rattle.std.specs.Prelude.{◌≡◌};
-ghost use Rattle.ob_c.specs.Budgets.{asked_status, covered_ahead_in_c, fault_number, pressure_number, rested_in_c, settled, settled_write};
+ghost use Rattle.ob_c.specs.Budgets.{asked_status, budgeted_fault_number, command_told, covered_ahead_in_c, pressure_number, rested_in_c, write_told};
 ghost use Rattle.ob_c.specs.Budgets.{pressed_cancelled_in_c, pressed_changed_in_c, pressed_done_in_c, pressed_flushed_in_c};
 ghost use Rattle.ob_c.specs.Budgets.{pressed_removed_in_c, pressed_taken_in_c, pressed_written_in_c};
 
-use crate::numbers::{BUSY, DONE, NOT_OPEN, OVER_BUDGET, accepted, status_of};
-use crate::replies::{Cancelled, Changed, Flushed, Removed, Taken, Written, WrittenAndFlushed};
+use crate::numbers::{BUSY, DONE, NOT_OPEN, OVER_BUDGET, accepted, change_number, status_of};
+use crate::replies::{Cancelled, Changed, Removed, Taken, WrittenAndFlushed};
 use ob_budget::{Pressure, RaiseFault};
 use ob_covered::{Told, WriteFault};
 use ob_types::{Change, Refusal};
 
 /// The number of a turn of pressure.
-pub(crate) fn pressure_number(pressure: Option<Pressure>) -> u32
+pub(crate) fn pressure_number(pressure: Option<Pressure>) -> u16
     ensures { result ≡ pressure_number pressure }
 {
     match pressure {
@@ -23,8 +23,8 @@ pub(crate) fn pressure_number(pressure: Option<Pressure>) -> u32
 }
 
 /// What a command has to report, and the number of the turn of pressure.
-pub(crate) fn settled<T>(told: Option<Told<Result<T, Refusal>>>) -> (Result<T, u32>, u32)
-    ensures { result ≡ settled told }
+pub(crate) fn command_told<T>(told: Option<Told<Result<T, Refusal>>>) -> (Result<T, u32>, u16)
+    ensures { result ≡ command_told told }
 {
     match told {
         None => (Err(NOT_OPEN), 0),
@@ -33,23 +33,26 @@ pub(crate) fn settled<T>(told: Option<Told<Result<T, Refusal>>>) -> (Result<T, u
 }
 
 /// What a write has to report, and the number of the turn of pressure.
-pub(crate) fn settled_write(
+pub(crate) fn write_told(
     told: Option<Told<Result<ob_connection::Written, WriteFault>>>,
-) -> (Result<ob_connection::Written, u32>, u32)
-    ensures { result ≡ settled_write told }
+) -> (Result<ob_connection::Written, u32>, u16)
+    ensures { result ≡ write_told told }
 {
     let Some(told) = told else {
         return (Err(NOT_OPEN), 0);
     };
     match told.answer {
-        Err(why) => (Err(fault_number(why)), pressure_number(told.pressure)),
+        Err(why) => (
+            Err(budgeted_fault_number(why)),
+            pressure_number(told.pressure),
+        ),
         Ok(written) => (Ok(written), pressure_number(told.pressure)),
     }
 }
 
 /// The status of a write that was refused.
-fn fault_number(why: WriteFault) -> u32
-    ensures { result ≡ fault_number why }
+fn budgeted_fault_number(why: WriteFault) -> u32
+    ensures { result ≡ budgeted_fault_number why }
 {
     match why {
         WriteFault::Refused(refusal) => u32::from(refusal.number()),
@@ -81,13 +84,13 @@ pub struct PressedDone {
 
 impl PressedDone {
     /// What C gets for this.
-    pub(crate) fn of(told: (Result<(), u32>, u32)) -> PressedDone
+    pub(crate) fn of(told: (Result<(), u32>, u16)) -> PressedDone
         ensures { result ≡ pressed_done_in_c told }
     {
         let (answer, pressure) = told;
         PressedDone {
             status: status_of(answer),
-            pressure,
+            pressure: u32::from(pressure),
         }
     }
 
@@ -103,7 +106,7 @@ impl PressedDone {
         };
         PressedDone {
             status: asked_status(answer),
-            pressure: pressure_number(pressure),
+            pressure: u32::from(pressure_number(pressure)),
         }
     }
 
@@ -118,31 +121,45 @@ impl PressedDone {
             },
             Some(pressure) => PressedDone {
                 status: DONE,
-                pressure: pressure_number(pressure),
+                pressure: u32::from(pressure_number(pressure)),
             },
         }
     }
 }
 
-/// What a write returns.
+/// What a write returns: what `Written` tells, with the change as two bytes, so that it comes back in two registers.
 #[repr(C)]
 #[derive(Clone, Copy)]
 pub struct PressedWritten {
-    /// The reply.
-    pub written: Written,
+    /// 0, or why nothing was written.
+    pub status: u32,
+    /// How writability changed.
+    pub change: u16,
     /// How pressure at the budget changed by this call.
-    pub pressure: u32,
+    pub pressure: u16,
+    /// The promise of the message.
+    pub id: u64,
 }
 
 impl PressedWritten {
     /// What C gets for this.
-    pub(crate) fn of(told: (Result<ob_connection::Written, u32>, u32)) -> PressedWritten
+    pub(crate) fn of(told: (Result<ob_connection::Written, u32>, u16)) -> PressedWritten
         ensures { result ≡ pressed_written_in_c told }
     {
         let (answer, pressure) = told;
-        PressedWritten {
-            written: Written::of(answer),
-            pressure,
+        match answer {
+            Err(status) => PressedWritten {
+                status,
+                change: 0,
+                pressure,
+                id: 0,
+            },
+            Ok(reply) => PressedWritten {
+                status: DONE,
+                change: change_number(reply.change),
+                pressure,
+                id: reply.id,
+            },
         }
     }
 }
@@ -157,25 +174,39 @@ pub struct PressedWrittenAndFlushed {
     pub pressure: u32,
 }
 
-/// What a flush returns.
+/// What a flush returns: what `Flushed` tells, with the change as two bytes, so that it comes back in two registers.
 #[repr(C)]
 #[derive(Clone, Copy)]
 pub struct PressedFlushed {
-    /// The reply.
-    pub flushed: Flushed,
+    /// 0, or why nothing changed.
+    pub status: u32,
+    /// How writability changed.
+    pub change: u16,
     /// How pressure at the budget changed by this call.
-    pub pressure: u32,
+    pub pressure: u16,
+    /// How many messages it let the transport have.
+    pub count: u64,
 }
 
 impl PressedFlushed {
     /// What C gets for this.
-    pub(crate) fn of(told: (Result<ob_connection::Flushed, u32>, u32)) -> PressedFlushed
+    pub(crate) fn of(told: (Result<ob_connection::Flushed, u32>, u16)) -> PressedFlushed
         ensures { result ≡ pressed_flushed_in_c told }
     {
         let (answer, pressure) = told;
-        PressedFlushed {
-            flushed: Flushed::of(answer),
-            pressure,
+        match answer {
+            Err(status) => PressedFlushed {
+                status,
+                change: 0,
+                pressure,
+                count: 0,
+            },
+            Ok(reply) => PressedFlushed {
+                status: DONE,
+                change: change_number(reply.change),
+                pressure,
+                count: reply.count,
+            },
         }
     }
 }
@@ -192,13 +223,13 @@ pub struct PressedRemoved {
 
 impl PressedRemoved {
     /// What C gets for this.
-    pub(crate) fn of(told: (Result<ob_connection::Removed, u32>, u32)) -> PressedRemoved
+    pub(crate) fn of(told: (Result<ob_connection::Removed, u32>, u16)) -> PressedRemoved
         ensures { result ≡ pressed_removed_in_c told }
     {
         let (answer, pressure) = told;
         PressedRemoved {
             removed: Removed::of(answer),
-            pressure,
+            pressure: u32::from(pressure),
         }
     }
 }
@@ -215,13 +246,13 @@ pub struct PressedTaken {
 
 impl PressedTaken {
     /// What C gets for this.
-    pub(crate) fn of(told: (Result<ob_connection::Taken, u32>, u32)) -> PressedTaken
+    pub(crate) fn of(told: (Result<ob_connection::Taken, u32>, u16)) -> PressedTaken
         ensures { result ≡ pressed_taken_in_c told }
     {
         let (answer, pressure) = told;
         PressedTaken {
             taken: Taken::of(answer),
-            pressure,
+            pressure: u32::from(pressure),
         }
     }
 }
@@ -238,13 +269,13 @@ pub struct PressedCancelled {
 
 impl PressedCancelled {
     /// What C gets for this.
-    pub(crate) fn of(told: (Result<bool, u32>, u32)) -> PressedCancelled
+    pub(crate) fn of(told: (Result<bool, u32>, u16)) -> PressedCancelled
         ensures { result ≡ pressed_cancelled_in_c told }
     {
         let (answer, pressure) = told;
         PressedCancelled {
             cancelled: Cancelled::of(answer),
-            pressure,
+            pressure: u32::from(pressure),
         }
     }
 }
@@ -261,13 +292,13 @@ pub struct PressedChanged {
 
 impl PressedChanged {
     /// What C gets for this.
-    pub(crate) fn of(told: (Result<Option<Change>, u32>, u32)) -> PressedChanged
+    pub(crate) fn of(told: (Result<Option<Change>, u32>, u16)) -> PressedChanged
         ensures { result ≡ pressed_changed_in_c told }
     {
         let (answer, pressure) = told;
         PressedChanged {
             changed: Changed::of(answer),
-            pressure,
+            pressure: u32::from(pressure),
         }
     }
 }

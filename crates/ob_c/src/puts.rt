@@ -55,7 +55,7 @@ impl PressedWrittenAndFlushed {
         let (answer, pressure) = within_told(told);
         PressedWrittenAndFlushed {
             done: WrittenAndFlushed::of(answer),
-            pressure,
+            pressure: u32::from(pressure),
         }
     }
 }
@@ -72,7 +72,7 @@ impl PressedDone {
             },
             Ok(pressure) => PressedDone {
                 status: DONE,
-                pressure: pressure_number(pressure),
+                pressure: u32::from(pressure_number(pressure)),
             },
         }
     }
@@ -100,7 +100,7 @@ pub(crate) fn let_go<T, A: Drop>(
 /// The reply to a write within a budget, or the status of its refusal, and the number of the turn of pressure.
 fn within_told<T>(
     told: Result<Told<Result<Result<T, WriteFault>, RaiseFault>>, u32>,
-) -> (Result<T, u32>, u32)
+) -> (Result<T, u32>, u16)
     ensures { result ≡ within_told told }
 {
     match told {

@@ -32,7 +32,7 @@ impl Written {
             },
             Ok(reply) => Written {
                 status: DONE,
-                change: change_number(reply.change),
+                change: u32::from(change_number(reply.change)),
                 id: reply.id,
             },
         }
@@ -64,7 +64,7 @@ impl Flushed {
             },
             Ok(reply) => Flushed {
                 status: DONE,
-                change: change_number(reply.change),
+                change: u32::from(change_number(reply.change)),
                 count: reply.count,
             },
         }
@@ -104,9 +104,9 @@ impl WrittenAndFlushed {
             },
             Ok(reply) => WrittenAndFlushed {
                 status: DONE,
-                change: change_number(reply.written.change),
+                change: u32::from(change_number(reply.written.change)),
                 id: reply.written.id,
-                flush_change: change_number(reply.flushed.change),
+                flush_change: u32::from(change_number(reply.flushed.change)),
                 count: reply.flushed.count,
             },
         }
@@ -156,7 +156,7 @@ impl Removed {
     fn done(reply: ob_connection::Removed) -> Removed
         ensures { result ≡ removed_with (change_number reply.change) reply.any reply.settled }
     {
-        let change = change_number(reply.change);
+        let change = u32::from(change_number(reply.change));
         match reply.settled {
             None => Removed {
                 status: DONE,
@@ -218,7 +218,7 @@ impl Taken {
             },
             Ok(reply) => Taken {
                 status: DONE,
-                change: change_number(reply.change),
+                change: u32::from(change_number(reply.change)),
                 outcome: outcome_number(reply.outcome),
                 cause: cause_number(reply.outcome),
                 count: reply.count,
@@ -269,7 +269,7 @@ impl Changed {
     {
         let (status, change) = match answer {
             Err(status) => (status, 0),
-            Ok(change) => (DONE, change_number(change)),
+            Ok(change) => (DONE, u32::from(change_number(change))),
         };
         Changed { status, change }
     }

@@ -23,7 +23,7 @@ mod heap;
 pub const PIECES: usize = 1024;
 
 /// A number of these declarations, which `limekeel_open_for` compares with the archive's.
-pub const EDGE: u32 = 524525967;
+pub const EDGE: u32 = 3279013865;
 
 macro_rules! numbers {
     ($($name:ident = $number:literal),* $(,)?) => {
@@ -185,10 +185,10 @@ plain! {
     /// `struct limekeel_pressed_done`.
     PressedDone 8 { status at 0: u32, pressure at 4: u32 }
     /// `struct limekeel_pressed_written`.
-    PressedWritten 24 { written at 0: Written, pressure at 16: u32 }
+    PressedWritten 16 { status at 0: u32, change at 4: u16, pressure at 6: u16, id at 8: u64 }
     PressedWrittenAndFlushed 40 { done at 0: WrittenAndFlushed, pressure at 32: u32 }
     /// `struct limekeel_pressed_flushed`.
-    PressedFlushed 24 { flushed at 0: Flushed, pressure at 16: u32 }
+    PressedFlushed 16 { status at 0: u32, change at 4: u16, pressure at 6: u16, count at 8: u64 }
     /// `struct limekeel_pressed_removed`.
     PressedRemoved 40 { removed at 0: Removed, pressure at 32: u32 }
     /// `struct limekeel_pressed_taken`.

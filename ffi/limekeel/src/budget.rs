@@ -5,7 +5,7 @@ use crate::budget_raw::{Budgeted, Handle};
 use crate::calm::{Calm, Waiters};
 use crate::connection::{Estimate, Marks};
 use crate::handles::Sender;
-use crate::lends::{Made, Owned};
+use crate::lends::{Made, Owned, WrittenWithin};
 use crate::promises::{Cancelled, Node};
 use crate::raw::{Gather, Pieces};
 use crate::replies::{Change, Flushed, Refusal, Refused, Removed, Taken, Written, done};
@@ -311,20 +311,21 @@ impl BudgetedConnection {
     /// Writes a region: `length` bytes of something that the caller sends, as of a file.
     pub fn write_region(&mut self, length: u64) -> Pressed<Result<Written, Refusal>> {
         let told = self.handle.write_region(length);
-        self.waiters.written(told)
+        self.waiters.written(told.into())
     }
 
     /// Writes any other message, by a number that means something to the caller alone.
     pub fn write_other(&mut self, value: u32) -> Pressed<Result<Written, Refusal>> {
         let told = self.handle.write_other(value);
-        self.waiters.written(told)
+        self.waiters.written(told.into())
     }
 
     /// As [`crate::Connection::flush`].
     #[inline]
     pub fn flush(&mut self) -> Pressed<Result<Flushed, Refusal>> {
-        let told = self.handle.flush();
-        Pressed { answer: Flushed::of(told.flushed), pressure: self.waiters.turned(told.pressure) }
+        let sys::PressedFlushed { status, change, pressure, count } = self.handle.flush();
+        let told = sys::Flushed { status, change: change.into(), count };
+        Pressed { answer: Flushed::of(told), pressure: self.waiters.turned(pressure.into()) }
     }
 
     /// As [`crate::Connection::remove`].
@@ -514,8 +515,8 @@ impl Waiters {
 
     /// What a write returns. Most are accepted and turn nothing: one comparison tells that.
     #[inline(always)]
-    pub(crate) fn written(&self, told: sys::PressedWritten) -> Pressed<Result<Written, Refusal>> {
-        let sys::PressedWritten { written: sys::Written { status, change, id }, pressure } = told;
+    pub(crate) fn written(&self, told: WrittenWithin) -> Pressed<Result<Written, Refusal>> {
+        let WrittenWithin { written: sys::Written { status, change, id }, pressure } = told;
         if status | pressure == 0 {
             return Pressed { answer: Ok(Written { id, change: Change::of(change) }), pressure: None };
         }

@@ -6,7 +6,7 @@ use std::ptr::null_mut;
 
 use crate::budget::Bounds;
 use crate::connection::{Estimate, Marks};
-use crate::lends::{Archived, Lends, told};
+use crate::lends::{Archived, Lends, WrittenWithin};
 use crate::lent::Lent;
 use crate::raw::{Gather, Place, Slot, commands, front_removals, looks, removals};
 use crate::replies::{Refusal, done};
@@ -125,22 +125,22 @@ impl Budgeted {
 
     /// Writes a copy of these bytes, which the archive makes.
     #[cold]
-    pub(crate) fn write(&mut self, bytes: &[u8]) -> sys::PressedWritten {
+    pub(crate) fn write(&mut self, bytes: &[u8]) -> WrittenWithin {
         // SAFETY: the handle is this value's own; the pointer and the length are those of one slice.
-        told(&unsafe { sys::limekeel_budgeted_write_bytes(&mut self.inner, bytes.as_ptr(), bytes.len()) })
+        unsafe { sys::limekeel_budgeted_write_bytes(&mut self.inner, bytes.as_ptr(), bytes.len()) }.into()
     }
 
     /// Writes bytes that are there for good.
     #[inline]
-    pub(crate) fn write_static(&mut self, bytes: &'static [u8]) -> sys::PressedWritten {
+    pub(crate) fn write_static(&mut self, bytes: &'static [u8]) -> WrittenWithin {
         // SAFETY: the handle is this value's own; the pointer and the length are those of one slice, which stays as it is.
-        told(&unsafe { sys::limekeel_budgeted_write_lent_bytes(&mut self.inner, bytes.as_ptr(), bytes.len()) })
+        unsafe { sys::limekeel_budgeted_write_lent_bytes(&mut self.inner, bytes.as_ptr(), bytes.len()) }.into()
     }
 
     #[inline]
-    pub(crate) fn write_block(&mut self, block: &Slot) -> sys::PressedWritten {
+    pub(crate) fn write_block(&mut self, block: &Slot) -> WrittenWithin {
         // SAFETY: both handles are their values' own, and two values; the block is only read.
-        told(&unsafe { sys::limekeel_budgeted_write_block(&mut self.inner, block.inner()) })
+        unsafe { sys::limekeel_budgeted_write_block(&mut self.inner, block.inner()) }.into()
     }
 }
 

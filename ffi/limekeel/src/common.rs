@@ -1,5 +1,6 @@
 use crate::calm::Waiters;
 use crate::handles::{Sender, Sharer};
+use crate::lends::WrittenWithin;
 use crate::lent::{Kept, Lent, Owner};
 use crate::promises::{Node, Promises};
 use crate::replies::{Refusal, Taken, Written, done};
@@ -107,7 +108,7 @@ impl Common {
         let Some(Covered(waiters)) = &self.covered else {
             return self.line.had(call);
         };
-        let told = self.line.had(within);
+        let told = WrittenWithin::from(self.line.had(within));
         let _ = waiters.turned(told.pressure);
         told.written
     }

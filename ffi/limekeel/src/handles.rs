@@ -108,20 +108,20 @@ impl Sharer {
     pub(crate) fn write_region_within(&self, length: u64) -> Option<sys::PressedWritten> {
         // SAFETY: as of the others.
         let told = self.with(|inner| unsafe { sys::limekeel_shared_write_region_within(inner, length) })?;
-        (told.written.status != sys::BUSY).then_some(told)
+        (told.status != sys::BUSY).then_some(told)
     }
 
     pub(crate) fn write_other_within(&self, value: u32) -> Option<sys::PressedWritten> {
         // SAFETY: as of the others.
         let told = self.with(|inner| unsafe { sys::limekeel_shared_write_other_within(inner, value) })?;
-        (told.written.status != sys::BUSY).then_some(told)
+        (told.status != sys::BUSY).then_some(told)
     }
 
     pub(crate) fn write_within(&self, bytes: &[u8]) -> Option<sys::PressedWritten> {
         // SAFETY: as of `write`.
         let told =
             self.with(|inner| unsafe { sys::limekeel_shared_write_bytes_within(inner, bytes.as_ptr(), bytes.len()) })?;
-        (told.written.status != sys::BUSY).then_some(told)
+        (told.status != sys::BUSY).then_some(told)
     }
 
     pub(crate) fn write_and_flush_within(&self, bytes: &[u8]) -> Option<sys::PressedWrittenAndFlushed> {
@@ -135,7 +135,7 @@ impl Sharer {
     pub(crate) fn write_block_within(&self, block: &Slot) -> Option<sys::PressedWritten> {
         // SAFETY: as of the others; the block is only read.
         let told = self.with(|inner| unsafe { sys::limekeel_shared_write_block_within(inner, block.inner()) })?;
-        (told.written.status != sys::BUSY).then_some(told)
+        (told.status != sys::BUSY).then_some(told)
     }
 
     pub(crate) fn write_block_and_flush_within(&self, block: &Slot) -> Option<sys::PressedWrittenAndFlushed> {
@@ -155,7 +155,7 @@ impl Sharer {
         let told = self.with(|inner| unsafe {
             sys::limekeel_shared_write_lent_bytes_within(inner, bytes.as_ptr(), bytes.len())
         })?;
-        (told.written.status != sys::BUSY).then_some(told)
+        (told.status != sys::BUSY).then_some(told)
     }
 
     pub(crate) fn set_marks(&self, marks: Marks) -> Option<u32> {

@@ -6,12 +6,19 @@ use std::any::Any;
 use crate::lent::{Kept, Lent, Owner};
 use crate::replies::{Refusal, done};
 
-/// What the archive told, read number by number: read as a whole it is in other pieces than it was written in, for which the
-/// processor waits as long as for the write itself.
-#[inline(always)]
-pub(crate) fn told(whole: &sys::PressedWritten) -> sys::PressedWritten {
-    let sys::PressedWritten { written: sys::Written { status, change, id }, pressure } = *whole;
-    sys::PressedWritten { written: sys::Written { status, change, id }, pressure }
+/// What a write came to, and the number of the change of pressure: none, if no budget covers the connection.
+#[derive(Clone, Copy)]
+pub(crate) struct WrittenWithin {
+    pub(crate) written: sys::Written,
+    pub(crate) pressure: u32,
+}
+
+impl From<sys::PressedWritten> for WrittenWithin {
+    #[inline(always)]
+    fn from(told: sys::PressedWritten) -> WrittenWithin {
+        let sys::PressedWritten { status, change, pressure, id } = told;
+        WrittenWithin { written: sys::Written { status, change: change.into(), id }, pressure: pressure.into() }
+    }
 }
 
 /// The handle of a connection of the archive's that bytes are lent to.
@@ -29,14 +36,14 @@ impl Archived<'_> {
     ///
     /// They stay there as they are until the archive told the message as gone, or freed the connection.
     #[inline(always)]
-    unsafe fn write(&mut self, at: *const u8, length: usize) -> sys::PressedWritten {
-        let unpressed = |written| sys::PressedWritten { written, pressure: sys::PRESSURE_UNCHANGED };
+    unsafe fn write(&mut self, at: *const u8, length: usize) -> WrittenWithin {
+        let unpressed = |written| WrittenWithin { written, pressure: sys::PRESSURE_UNCHANGED };
         // SAFETY: `&mut` says that no other call uses the handle; the caller says the rest.
         unsafe {
             match self {
                 Archived::Connection(handle) => unpressed(sys::limekeel_write_lent_bytes(*handle, at, length)),
                 Archived::Managed(handle) => unpressed(sys::limekeel_managed_write_lent_bytes(*handle, at, length)),
-                Archived::Budgeted(handle) => told(&sys::limekeel_budgeted_write_lent_bytes(*handle, at, length)),
+                Archived::Budgeted(handle) => sys::limekeel_budgeted_write_lent_bytes(*handle, at, length).into(),
             }
         }
     }
@@ -69,7 +76,7 @@ impl Lends<'_> {
     /// Writes a copy of few bytes, made where messages are made in place: so it needs no count of owners, which the archive would
     /// keep for it. If there is no memory for that, or they are many, it does nothing, and the archive is to be asked.
     #[inline(always)]
-    pub(crate) fn write_copy(self, bytes: &[u8]) -> Option<sys::PressedWritten> {
+    pub(crate) fn write_copy(self, bytes: &[u8]) -> Option<WrittenWithin> {
         if bytes.len() > LONGEST {
             return None;
         }
@@ -179,7 +186,7 @@ impl<'a> Made<'a> {
 
     /// Writes it.
     #[inline(always)]
-    pub(crate) fn write(mut self) -> sys::PressedWritten {
+    pub(crate) fn write(mut self) -> WrittenWithin {
         let bytes = self.lends.lent.made_from(self.start);
         let (at, length) = (bytes.as_ptr(), bytes.len());
         // SAFETY: the pointer and the length are those of one slice. The chunk is kept with the promise of the last message in it,
