@@ -260,10 +260,7 @@ impl BudgetedConnection {
     /// Writes a copy of these bytes.
     #[inline]
     pub fn write(&mut self, bytes: &[u8]) -> Pressed<Result<Written, Refusal>> {
-        if let Some(told) = self.handle.lends().write_copy(bytes) {
-            return self.waiters.written(told);
-        }
-        let told = self.handle.write(bytes);
+        let told = self.handle.lends().write_copy(bytes).unwrap_or_else(|| self.handle.write(bytes));
         self.waiters.written(told)
     }
 
