@@ -9,6 +9,7 @@ ghost use Rattle.ob_connection.specs.Connected.{room_in};
 ghost use Rattle.ob_connection.specs.Obeying.{Obeys, written_reply};
 ghost use Rattle.ob_covered.specs.Budgeted.{OverBudgetAlone, WritesWithin};
 ghost use Rattle.ob_covered.specs.Inside.{Covers, HoldsBeside, let_through};
+ghost use Rattle.ob_covered.specs.declared.fault.WriteFault.TheVariants.{Refused};
 
 use super::Budgeted;
 use crate::cover::Cover;
@@ -33,7 +34,7 @@ impl Budgeted {
         let answer = self.connection.write_copy(bytes);
         let _look = self.connection.look();
         Told {
-            answer: let_through(answer),
+            answer: let_copy_through(answer),
             pressure: None,
         }
     }
@@ -183,4 +184,26 @@ fn let_through(answer: Result<Written, Refusal>) -> Result<Written, WriteFault>
         Ok(written) => Ok(written),
         Err(refusal) => Err(WriteFault::Refused(refusal)),
     }
+}
+
+/// The same of a copy, whose answer comes back through memory.
+// a refusal has a call of its own, so that how writability changed is read of an accepted write alone: read before, it is read
+// as four bytes, of which two were written one by one, and the processor waits for these
+#[inline(always)]
+fn let_copy_through(answer: Result<Written, Refusal>) -> Result<Written, WriteFault>
+    ensures { result ≡ let_through answer }
+{
+    match answer {
+        Ok(written) => Ok(written),
+        Err(refusal) => Err(refused(refusal)),
+    }
+}
+
+/// A refusal of the connection, as a fault of a write.
+#[cold]
+#[inline(never)]
+fn refused(refusal: Refusal) -> WriteFault
+    ensures { result ≡ Refused refusal }
+{
+    WriteFault::Refused(refusal)
 }

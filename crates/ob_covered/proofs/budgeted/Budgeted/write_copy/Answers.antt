@@ -18,8 +18,8 @@ returns-clause-writes c =
     let message = Block c.args.bytes.now in
     let old : BudgetedValue = record { connection = c.self.inside.connection; cover = c.self.inside.cover } in
     let new : BudgetedValue = record { connection = c.write_copy-answer.new.self; cover = c.self.inside.cover } in
-    subst (λ v. WritesWithin (λ why. why) message v (record { answer = c.let_through.result; pressure = None }) new) c.self.view_is
+    subst (λ v. WritesWithin (λ why. why) message v (record { answer = c.let_copy_through.result; pressure = None }) new) c.self.view_is
     (subst (λ answer. WritesWithin (λ why. why) message old (record { answer = answer; pressure = None }) new)
-    (sym c.let_through.ensures)
+    (sym c.let_copy_through.ensures)
     (writes_block message old old None c.write_copy-answer.result c.write_copy-answer.new.self (covers_already message old (c.holds_block.ensures c.if-not-holds_block.false))
     c.write_copy-answer.ensures.obeys c.write_copy-answer.ensures.room))
