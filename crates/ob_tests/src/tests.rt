@@ -1,12 +1,9 @@
 mod calls;
-mod connection;
 mod failing_sink;
-mod first_program;
 mod history;
 mod in_flight;
 mod lanes;
 mod limits;
-mod patterns;
 mod schedules;
 mod seq;
 mod slow_peer;

@@ -1,0 +1,3 @@
+mod connection;
+mod first_program;
+mod patterns;
