@@ -1,1 +1,7 @@
-pub mod Lemmas
+pub mod CoreLines
+pub mod CoreRows
+pub mod DriveLines
+pub mod DriveRows
+pub mod Entered
+pub mod RunLines
+pub mod RunRows

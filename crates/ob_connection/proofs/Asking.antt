@@ -10,11 +10,10 @@ use Rattle.ob_types.specs.declared.message.Message.{Message}
 use Rattle.ob_types.specs.declared.message.Message.TheVariants.{Block}
 use Rattle.ob_types.specs.declared.reply.Change.{Change}
 use Rattle.ob_seq.specs.Steps.Commands.{asked, has_bytes_left, written}
-use Rattle.ob_seq.proofs.Inside.Admitted.{asked_there, few, first_is, light, refusal_other, write_made, write_wanting}
+use Rattle.ob_seq.proofs.Inside.Steps.{asked_there, few, first_is, light, refusal_other, write_made, write_wanting}
 use Rattle.ob_connection.specs.Inside.{IsFirstRefusal, admission}
 use Rattle.ob_connection.specs.Obeying.{written_reply}
-use Rattle.ob_connection.proofs.Kept.{ids_are, some_past}
-use Rattle.ob_connection.proofs.Making.{first_refused, made_within}
+use Rattle.ob_connection.proofs.Steps.{ids_are, some_past, first_refused, made_within}
 
 -- what a block counts goes by how many bytes it has
 pub size_of_block : (estimate : Estimate) (count : ℕ) (bytes : List ℕ) → length bytes ≡ count →

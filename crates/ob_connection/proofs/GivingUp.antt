@@ -9,11 +9,10 @@ use Rattle.ob_seq.specs.Answer.{unless_refused}
 use Rattle.ob_seq.specs.State.{is_closed}
 use Rattle.ob_seq.specs.Steps.Commands.{closing_step, line_failed}
 use Rattle.ob_seq.proofs.Inside.LetGo.{none_left}
-use Rattle.ob_seq.proofs.Inside.Made.{first_where_open}
-use Rattle.ob_seq.proofs.Inside.Times.{line_of_times}
+use Rattle.ob_seq.proofs.Inside.Steps.{first_where_open, line_of_times}
 use Rattle.ob_seq.proofs.Simulating.Simulated.{answer_is, goes_on, simulated}
 use Rattle.ob_connection.specs.Connected.{answer_of_connection}
-use Rattle.ob_connection.proofs.Kept.{closed_of_times}
+use Rattle.ob_connection.proofs.Steps.{closed_of_times}
 use Rattle.ob_connection.proofs.Obeyed.{past_of}
 use Rattle.ob_connection.proofs.Settling.{taken_between}
 

@@ -1,14 +1,12 @@
 pub mod Asking
 pub mod Answered
-pub mod Gathered
 pub mod GivingUp
-pub mod Kept
-pub mod Making
 pub mod Obeyed
 pub mod Offered
 pub mod Parts
 pub mod Sending
 pub mod Settling
+pub mod Steps
 pub mod Taking
 pub mod TurnOffers
 pub mod Turns

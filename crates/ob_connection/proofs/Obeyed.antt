@@ -9,11 +9,10 @@ use Rattle.std.proofs.lemmas.List.{length-map}
 use Rattle.ob_seq.specs.Effect.{rows_after}
 use Rattle.ob_seq.proofs.Rows.Limits.{rows_within}
 use Rattle.ob_connection.specs.Connected.{Refuses}
-use Rattle.ob_connection.proofs.Kept.{ids_are, some_past}
+use Rattle.ob_connection.proofs.Steps.{ids_are, some_past, made_within}
 use Rattle.ob_seq.specs.Steps.Within.{StepsWithin}
 use Rattle.ob_connection.specs.Inside.{IsFirstRefusal}
 use Rattle.ob_connection.specs.Obeying.{Accepts}
-use Rattle.ob_connection.proofs.Making.{made_within}
 use Rattle.ob_seq.proofs.Simulating.Simulated.{answer_is, goes_on, simulated}
 
 -- a result as the model's is out of memory exactly if it is

@@ -1,16 +1,19 @@
--- What a socket is offered, and what it took.
-use Rattle.ob_connection.proofs.Words.{◌≡◌, ◌≤◌, ℕ, List, [], ◌∷◌, ◌++◌, length, map, take, refl, ap, ◌∙◌, Option, Some, None, append_assoc}
-use Rattle.ob_connection.proofs.Words.{arith, nat_tests, Unsent}
+-- What a socket is offered, what it took, and what is gathered from a connection.
+use Rattle.std.proofs.lemmas.List.Concat.{flat_map-cons}
+use Rattle.std.proofs.lemmas.Bool.{cases_lt}
+use Rattle.std.proofs.lemmas.List.{length-map, length-take, take_all}
 use Rattle.std.specs.Io.Slices.{io_slice_bytes, io_slices_bytes}
 use Rattle.std.specs.List.{concat}
 use Rattle.std.specs.declared.io.slices.IoSlice.{IoSlice}
-use Rattle.std.proofs.lemmas.List.Concat.{flat_map-cons}
 use Rattle.std.specs.Prelude.{min}
-use Rattle.std.proofs.lemmas.Bool.{cases_lt}
-use Rattle.std.proofs.lemmas.List.{length-map, length-take, take_all}
 use Rattle.ob_types.specs.declared.message.Message.{Message}
 use Rattle.ob_seq.specs.Effect.{blocks_in_front}
-use Rattle.ob_seq.specs.Looks.{with_bytes}
+use Rattle.ob_seq.specs.Looks.{with_bytes, blocks_left, first_blocks, gathered_after}
+use Rattle.ob_seq.specs.Unsent.{pending_entries}
+use Rattle.ob_seq.proofs.Inside.Looked.{gathered_is}
+use Rattle.ob_connection.proofs.Words.{◌≡◌, ◌≤◌, ℕ, List, [], ◌∷◌, ◌++◌, length, map, take, refl, ap, ◌∙◌, Option, Some}
+use Rattle.ob_connection.proofs.Words.{None, append_assoc, arith, nat_tests, Unsent, whole, Connected, Command}
+use Rattle.ob_connection.proofs.Words.{StandsFor}
 use Rattle.ob_connection.specs.Calls.{Call, with_more}
 use Rattle.ob_connection.specs.Inside.{Offers, offered}
 use Rattle.ob_connection.specs.declared.connection.offer.Offer.{Offer}
@@ -60,3 +63,11 @@ few_offers few many max_count max_bytes unsent {offer = offer} less fits offers 
       nothing = λ none. rw (← same) (offers.nothing none);
       something = λ some. rw (← same) (offers.something some);
     }
+
+-- what is gathered from all in line is what is gathered after the history
+pub gathered_there : {inside now : Connected} → inside ≡ now → (limit most : ℕ) (commands : List Command) → StandsFor now commands →
+    first_blocks limit most (with_bytes (blocks_left (pending_entries inside.unsent.line)))
+    ≡ gathered_after now.unsent.settings commands limit most
+gathered_there {now = now} view limit most commands stands =
+    ap (λ (one : Connected). first_blocks limit most (with_bytes (blocks_left (pending_entries one.unsent.line)))) view
+    ∙ gathered_is (whole stands.past now.unsent) limit most commands stands.as_buffer.leaves

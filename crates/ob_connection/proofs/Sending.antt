@@ -23,7 +23,7 @@ use Rattle.ob_types.specs.declared.refusal.Refusal.TheVariants.{TooManyBytes}
 use Rattle.ob_seq.specs.Answer.{unless_refused}
 use Rattle.ob_seq.specs.Effect.{byte_run, rows_after, bytes_in}
 use Rattle.ob_seq.proofs.Inside.Gathered.{gathered_first, length_of_concat, more_gathered}
-use Rattle.ob_seq.proofs.Simulating.BytesRemoved.{run_is}
+use Rattle.ob_seq.proofs.Simulating.Removed.{run_is}
 use Rattle.ob_connection.specs.Connected.{answer_of_connection}
 use Rattle.ob_connection.specs.Calls.{Call, calls_with, had_no_room, most_pieces, with_more}
 use Rattle.ob_connection.specs.Inside.{removed, answer_of, EndsAt, IsLeft, offered, Offers, run_of}

@@ -12,10 +12,10 @@ use Rattle.ob_seq.specs.Steps.Step.{front_id, unflushed_id}
 use Rattle.ob_seq.specs.Unsent.{fixed_state, pending_entries, states_of, waiting_state}
 use Rattle.ob_seq.specs.declared.entry.Entry.{Entry}
 use Rattle.ob_seq.proofs.Inside.Rooms.{fresh_states, promises_there}
-use Rattle.ob_seq.proofs.Rows.Acceptance.{same_reply}
+use Rattle.ob_seq.proofs.Rows.History.{same_reply}
 use Rattle.ob_connection.specs.Obeying.{IsNext, settled_from, taken_reply}
 use Rattle.ob_connection.specs.declared.replies.Taken.{Taken}
-use Rattle.ob_connection.proofs.Kept.{front_id_there}
+use Rattle.ob_connection.proofs.Steps.{front_id_there}
 
 -- the promises of the first `count` entries in line settle what the entries do
 settled_entries : (outcome : Outcome) (id count : ℕ) (line : List Entry) (rest : List PromiseState) →

@@ -23,8 +23,7 @@ use Rattle.ob_seq.proofs.Inside.LetGo.{a_cut, none_left}
 use Rattle.ob_connection.specs.Inside.{IsCut}
 use Rattle.ob_connection.specs.Obeying.{removed_reply, settled_if}
 use Rattle.ob_connection.specs.declared.replies.Removed.{Removed}
-use Rattle.ob_connection.proofs.Kept.{closed_of_times}
-use Rattle.ob_connection.proofs.Making.{becomes_left}
+use Rattle.ob_connection.proofs.Steps.{closed_of_times, becomes_left}
 use Rattle.ob_connection.proofs.Obeyed.{stands_after}
 
 -- what a removal of the front reports, and how many messages are gone after it

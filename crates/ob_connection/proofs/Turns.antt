@@ -18,12 +18,11 @@ use Rattle.ob_seq.specs.Steps.Commands.{front_taken, bytes_removed, bytes_step, 
 use Rattle.ob_seq.specs.Steps.Commands.{whole_cut}
 use Rattle.ob_seq.specs.Unsent.{pending_entries, pending_entry}
 use Rattle.ob_seq.specs.declared.contents.cut.Cut.{Cut}
-use Rattle.ob_seq.proofs.Inside.Blocks.{few_entries, left_from_block, left_from_other}
-use Rattle.ob_seq.proofs.Inside.Gathered.{length_of_concat}
-use Rattle.ob_seq.proofs.Inside.Pieces.{fitting, within_is_fitting}
-use Rattle.ob_seq.proofs.Inside.Times.{times_first}
+use Rattle.ob_seq.proofs.Inside.Gathered.{few_entries, left_from_block, left_from_other, length_of_concat, fitting}
+use Rattle.ob_seq.proofs.Inside.Gathered.{within_is_fitting}
+use Rattle.ob_seq.proofs.Inside.Steps.{times_first}
 use Rattle.ob_connection.specs.Inside.{cut_at, removed, run_of}
-use Rattle.ob_connection.proofs.Kept.{some_past}
+use Rattle.ob_connection.proofs.Steps.{some_past}
 
 -- what is held once the front is sent
 abbrev pub sent : Pending → Pending

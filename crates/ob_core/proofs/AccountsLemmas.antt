@@ -1,14 +1,16 @@
--- What is read off the accounts, and that a step of a lane keeps them.
-use Rattle.std.proofs.Common.{◌≡◌, ◌≢◌, ℕ, zero, suc, ◌+◌, ◌-◌, ◌<◌, ◌≤◌, List, set, Some}
-use Rattle.std.proofs.Common.{slice_get, ap, arith}
-use Rattle.std.specs.Int.{bit_at}
-use Rattle.std.specs.List.{All}
+-- What is read off the accounts, that a step of a lane keeps them, and what the words hold if one free lane has the
+-- whole room.
+use Rattle.std.proofs.Common.{◌≡◌, ◌≢◌, ℕ, zero, suc, ◌+◌, ◌-◌, ◌<◌, ◌≤◌, List, set, Some, slice_get, ap, arith, false}
+use Rattle.std.proofs.Common.{unwrap_or}
 use Rattle.std.proofs.lemmas.Bool.Decides.{nat_tests}
 use Rattle.std.proofs.lemmas.List.Elements.{All-set, All-weaker}
 use Rattle.std.proofs.lemmas.Nat.Bits.{bit_at-lt}
+use Rattle.std.specs.Int.{bit_at}
+use Rattle.std.specs.List.{All}
+use Rattle.ob_types.specs.Marks.{Marks}
 use Rattle.ob_core.specs.World.{AccountsHold, BitsAgree, BytesAgree, IsWithinRoom, MarkAgrees, raisers, owed_by}
-use Rattle.ob_core.specs.World.{AreAmong, CoreState, Grant}
-use Rattle.ob_core.specs.Step.{core_after_step, total_after, word_after, CanMake}
+use Rattle.ob_core.specs.World.{AreAmong, CoreState, Grant, is_set}
+use Rattle.ob_core.specs.Step.{core_after_step, total_after, word_after, CanMake, IsFree}
 use Rattle.ob_core.specs.declared.lane.Lane.{Lane}
 use Rattle.ob_core.specs.declared.lane_step.LaneStep.{LaneStep}
 use Rattle.ob_core.proofs.LaneSums.{all_at, at-le-sum_by, sum_by-put, sum_by-le-each, sum_by-le-outside}
@@ -213,3 +215,15 @@ AccountsHold-alike grant core index lane new is_lane alike accounts = record {
   mark = MarkAgrees-lanes core _ accounts.mark;
   bits = BitsAgree-alike grant core index lane new is_lane alike accounts.bits;
 }
+
+module _ (grant : Grant) (core : CoreState) (index : ℕ) (lane : Lane) (accounts : AccountsHold grant core)
+    (is_lane : slice_get core.lanes index ≡ Some lane) (free : IsFree lane) (whole : grant.room ≤ lane.room) where
+  pub nothing_left : core.total ≡ 0
+  nothing_left =
+      let nothing : owed_by lane ≡ 0 = ap (λ debt. unwrap_or debt 0) free.debt in
+      omega (arith, total-le-outside grant core index lane accounts.bytes is_lane)
+
+  pub mark_clear : 0 < grant.marks.low → is_set core.word 0 ≡ false
+  mark_clear positive =
+      let same_low : core.marks.low ≡ grant.marks.low = ap (λ (m : Marks). m.low) accounts.bytes.marks in
+      accounts.mark.below (omega (arith, positive, same_low, nothing_left)) (omega (arith, nothing_left))

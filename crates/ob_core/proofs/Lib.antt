@@ -1,13 +1,10 @@
 pub mod AccountsLemmas
 pub mod BitLemmas
-pub mod EndLemmas
-pub mod FoundLemmas
 pub mod Kept
 pub mod LaneSums
 pub mod LawLemmas
 pub mod Masks
 pub mod BeginningLemmas
-pub mod RestLemmas
 pub mod PartLemmas
 pub mod SoundLemmas
 pub mod StepLemmas

@@ -1,13 +1,14 @@
--- A lane after a step, and the mark, by small tables over the kinds of step.
-use Rattle.std.proofs.Common.{◌≡◌, ℕ, ◌+◌, ◌-◌, ◌<◌, ◌≤◌, Bool, true, false, nat_lt, unwrap_or, ⊎_elim}
-use Rattle.std.proofs.Common.{eqb, if◌then◌else◌, refl, sym, ap, ◌∙◌, subst, arith}
-use Rattle.std.specs.Int.{bit_at}
+-- A lane after a step, the mark, what a step leaves and how its change follows from what it finds.
+use Rattle.std.proofs.Common.{◌≡◌, ℕ, ◌+◌, ◌-◌, ◌<◌, ◌≤◌, Bool, true, false, nat_lt, unwrap_or, ⊎_elim, eqb}
+use Rattle.std.proofs.Common.{if◌then◌else◌, refl, sym, ap, ◌∙◌, subst, arith, ◌≢◌}
 use Rattle.std.proofs.lemmas.Bool.{cases_eq}
 use Rattle.std.proofs.lemmas.Bool.Decides.{nat_tests}
-use Rattle.ob_types.specs.Marks.{Marks}
+use Rattle.std.specs.Int.{bit_at}
+use Rattle.ob_types.specs.Marks.{Marks, change_between, packed, word_half, total_half}
 use Rattle.ob_core.specs.World.{IsWithinRoom, MarkAgrees, owed_by, is_set, with_bit, without_bit, PutsBit, AreAmong}
 use Rattle.ob_core.specs.World.{CoreState}
 use Rattle.ob_core.specs.Step.{is_held, total_after, raised_word, lowered_word, word_after, lane_after, CanMake}
+use Rattle.ob_core.specs.Step.{value_found, change_found, core_after_step, LeavesRest}
 use Rattle.ob_core.specs.declared.lane.Lane.{Lane}
 use Rattle.ob_core.specs.declared.lane_step.LaneStep.{LaneStep}
 use Rattle.ob_core.specs.declared.lane_step.LaneStep.TheVariants.{Add, Subtract, SetBit, ClearBit, Load}
@@ -202,3 +203,32 @@ MarkAgrees-step (ClearBit index) core lane may agree =
     marked_alike core (without_bit core.word index)
     (same_mark 0 core.word index _ lane may (ClearsBit-without_bit core.word index)) agree
 MarkAgrees-step Load core lane may agree = agree
+
+-- a word and a total are found again in the number that they were packed into, if the total fits its half
+pub word_half-packed : (word total : ℕ) → total < 4294967296 → word_half (packed word total) ≡ word
+word_half-packed word total fits = omega (arith, fits)
+
+pub total_half-packed : (word total : ℕ) → total < 4294967296 → total_half (packed word total) ≡ total
+total_half-packed word total fits = omega (arith, fits)
+
+pub change_found-between : (step : LaneStep) (core : CoreState) → core.total < 4294967296
+    → change_found step core.marks (value_found core)
+    ≡ change_between core.word (word_after step core.marks core.total core.word)
+change_found-between step core fits =
+    let is_word : word_half (value_found core) ≡ core.word = word_half-packed core.word core.total fits in
+    let is_total : total_half (value_found core) ≡ core.total = total_half-packed core.word core.total fits in
+    ap (λ word. change_between word (word_after step core.marks (total_half (value_found core)) word)) is_word
+    ∙ ap (λ total. change_between core.word (word_after step core.marks total core.word)) is_total
+
+above_zero : (index : ℕ) → index ≢ 0 → 0 < index
+above_zero index other = omega (arith, other)
+
+pub LeavesRest-step : (step : LaneStep) (core : CoreState) (index : ℕ) (lane : Lane)
+    → LeavesRest step core (core_after_step core index lane step)
+LeavesRest-step (Add amount) core index lane =
+    λ i other. bit_at-raised_word core.marks (core.total + amount) core.word i (above_zero i other)
+LeavesRest-step (Subtract amount) core index lane =
+    λ i other. bit_at-lowered_word core.marks (core.total - amount) core.word i (above_zero i other)
+LeavesRest-step (SetBit bit) core index lane = refl
+LeavesRest-step (ClearBit bit) core index lane = refl
+LeavesRest-step Load core index lane = (refl, refl)

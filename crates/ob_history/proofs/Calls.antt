@@ -1,9 +1,10 @@
--- A call of a history, full or not.
+-- A call of a history, full or not, and where its record stands.
 use Rattle.std.proofs.Common.{◌≡◌, ℕ, Bool, true, false, [], ◌∷◌, ◌++◌, Result, Ok, Err, get_or, length, ◌<◌, refl, sym}
 use Rattle.std.proofs.Common.{ap, ◌∙◌, subst, arith, rules}
-use Rattle.std.specs.Prelude.{◌≢◌, if◌then◌else◌}
-use Rattle.std.proofs.lemmas.Bool.{eqb-false}
+use Rattle.std.proofs.lemmas.Bool.{eqb-false, ne_eqb}
 use Rattle.std.proofs.lemmas.List.{get_or_push, length_push}
+use Rattle.std.specs.Prelude.{◌≢◌, if◌then◌else◌}
+use Rattle.std.specs.Vec.{vec_len}
 use Rattle.ob_types.specs.declared.command.Command.{Command}
 use Rattle.ob_types.specs.declared.refusal.Refusal.{Refusal}
 use Rattle.ob_types.specs.declared.refusal.Refusal.TheVariants.{HistoryFull}
@@ -11,8 +12,10 @@ use Rattle.ob_history.specs.History.{IsCall, call_answer, history_after, is_full
 use Rattle.ob_history.specs.History.{History, IsBounded, IsLegal, receipt_of}
 use Rattle.ob_history.specs.declared.receipt.Receipt.{Receipt}
 use Rattle.ob_history.specs.declared.record.Record.{Record}
-use Rattle.ob_history.proofs.Beginnings.{begins_itself}
+use Rattle.ob_history.proofs.Lists.{begins_itself}
 use Rattle.ob_history.proofs.Histories.{legal_with_next}
+use Rattle.ob_history.specs.Inside.{history_of}
+use Rattle.ob_history.specs.declared.recorded.Recorded.TheInside.{Inside}
 
 -- a history that is not full returns for a call the receipt of its record
 pub answer_with_place : (history : History) (caller : ℕ) (command : Command) → is_full history ≡ false →
@@ -124,3 +127,19 @@ called_begins old caller command (Ok receipt) new call =
     (begins_after old caller command)
 called_begins old caller command (Err refusal) new call =
     subst (λ (history : History). IsBeginning old.records history.records) (sym call.refused) (begins_itself old.records)
+
+-- the first free place of a history, and what stands there after the call
+pub record Placed (before after : Inside) (caller : ℕ) (command : Command) (place : ℕ) (other : Record) : Type 0 where
+  pub free : is_full (history_of before) ≡ false
+  pub within : place < vec_len after.records
+  pub found : get_or after.records.items place other ≡ next_record (history_of before) caller command
+
+pub placed : (before after : Inside) (old new : History) (caller : ℕ) (command : Command) (place : ℕ) (other : Record)
+    → place ≡ vec_len before.records → place ≢ before.limit → history_of before ≡ old → history_of after ≡ new
+    → new ≡ history_after old caller command → Placed before after caller command place other
+placed before after old new caller command place other is_place below was is called =
+    let first = is_place ∙ before.records.ok.0 in
+    let free = ne_eqb _ _ (λ same. below (first ∙ same)) in
+    let after_it = is ∙ called ∙ ap (λ history. history_after history caller command) (sym was) in
+    let at = record_at_place (history_of before) (history_of after) caller command place other free first after_it in
+    record { free = free; within = omega (arith, at.0, after.records.ok.0); found = at.1 }

@@ -1,18 +1,49 @@
 -- A caller's own receipts are at most its records, and if they are as many, they are these.
-use Rattle.std.proofs.Common.{◌≡◌, ℕ, zero, suc, ◌+◌, ◌<◌, ◌≤◌, Bool, true, false, not, eqb, List, [], ◌∷◌, ◌++◌, ◌⊎◌}
-use Rattle.std.proofs.Common.{inl, inr, length, map, cond, refl, sym, ap, ◌∙◌, subst, append_assoc, append-nil, arith}
-use Rattle.std.specs.Prelude.{◌≢◌, Some, slice_get, filter, sum_by}
-use Rattle.std.specs.List.{All, AllPairs}
+use Rattle.std.proofs.Common.{◌≡◌, ℕ, ◌+◌, ◌<◌, List, [], ◌∷◌, ◌++◌, length, take, map, cond, ap, ◌∙◌, append-nil}
+use Rattle.std.proofs.Common.{add-one, zero, suc, ◌≤◌, Bool, true, false, not, eqb, ◌⊎◌, inl, inr, refl, sym, subst}
+use Rattle.std.proofs.Common.{append_assoc, arith}
 use Rattle.std.proofs.lemmas.Bool.{eq-eqb, ne_eqb}
+use Rattle.std.proofs.lemmas.List.{map-append, length_push}
+use Rattle.std.proofs.lemmas.List.Elements.{filter-append, All-cons, All-head, All-nil, All-tail}
 use Rattle.std.proofs.lemmas.Bool.Decides.{eqb_tells}
-use Rattle.std.proofs.lemmas.List.{length_push}
-use Rattle.std.proofs.lemmas.List.Elements.{All-cons, All-head, All-nil, All-tail}
 use Rattle.std.proofs.lemmas.List.Filters.{length-filter_both}
 use Rattle.std.proofs.lemmas.List.Sums.{sum_by-cons}
-use Rattle.ob_history.specs.History.{AreOwn, HoldAll, Holding, records_of, IsReceiptIn, record_of}
+use Rattle.std.specs.Prelude.{◌==◌, ◌≢◌, slice_index_or, Some, slice_get, filter, sum_by}
+use Rattle.std.specs.List.{All, AllPairs}
+use Rattle.ob_history.specs.History.{records_of, receipt_of, AreOwn, HoldAll, Holding, IsReceiptIn, record_of}
 use Rattle.ob_history.specs.declared.receipt.Receipt.{Receipt}
 use Rattle.ob_history.specs.declared.record.Record.{Record}
-use Rattle.ob_history.proofs.Histories.{found_behind}
+use Rattle.ob_history.proofs.Histories.{found_at, found_behind}
+
+module _ (caller : ℕ) where
+  abbrev pub own : List Record → List Receipt
+  own records = map receipt_of (records_of caller records)
+
+  with_next : (records : List Record) (index : ℕ) (one : Record) → index < length records →
+      one ≡ slice_index_or records index one →
+      own (take (index + 1) records) ≡ own (take index records) ++ own (one ∷ [])
+  with_next records index one within is =
+      ap (λ count. own (take count records)) (add-one index)
+      ∙ ap own (found_at records index one within is).1
+      ∙ ap (map receipt_of) (filter-append (λ (each : Record). each.caller == caller) (take index records) (one ∷ []))
+      ∙ map-append receipt_of (records_of caller (take index records)) (records_of caller (one ∷ []))
+
+  -- a record of the caller adds its receipt
+  pub with_own : (records : List Record) (index : ℕ) (one : Record) → index < length records →
+      one ≡ slice_index_or records index one → one.caller ≡ caller →
+      own (take (index + 1) records) ≡ own (take index records) ++ receipt_of one ∷ []
+  with_own records index one within is named =
+      with_next records index one within is
+      ∙ ap (λ flag. own (take index records) ++ map receipt_of (cond flag (one ∷ []) [])) (eq-eqb one.caller caller named)
+
+  -- a record of another caller adds none
+  pub with_another : (records : List Record) (index : ℕ) (one : Record) → index < length records →
+      one ≡ slice_index_or records index one → one.caller ≢ caller →
+      own (take (index + 1) records) ≡ own (take index records)
+  with_another records index one within is named =
+      with_next records index one within is
+      ∙ ap (λ flag. own (take index records) ++ map receipt_of (cond flag (one ∷ []) [])) (ne_eqb one.caller caller named)
+      ∙ append-nil (own (take index records))
 
 -- nothing stands past a list's end
 none_past : (records : List Record) (place : ℕ) (one : Record) → length records ≤ place →

@@ -23,8 +23,7 @@ use Rattle.ob_seq.proofs.Rows.Accepting.{among_are_accepted}
 use Rattle.ob_seq.proofs.Rows.Told.{settled_is_told}
 use Rattle.ob_history.specs.History.{accepted_commands, IsLegal, settlements_in, settles}
 use Rattle.ob_history.specs.declared.record.Record.{Record}
-use Rattle.ob_history.proofs.Histories.{accepted_with_next, command_of, found_behind}
-use Rattle.ob_history.proofs.Settling.{settlements_of_legal}
+use Rattle.ob_history.proofs.Histories.{accepted_with_next, command_of, found_behind, settlements_of_legal}
 
 accepted_behind : (settings : Settings) (before more : List Record) → IsLegal settings (before ++ more) →
     accepted_commands (before ++ more) ≡ fold (commands_after settings) (accepted_commands before) (map command_of more)

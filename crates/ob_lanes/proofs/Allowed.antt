@@ -10,7 +10,7 @@ use Rattle.atomic_table.specs.declared.shared.Seat.{Seat}
 use prog.Atomic.{either}
 use Rattle.ob_types.specs.Marks.{total_half, Marks}
 use Rattle.ob_core.specs.World.{owed_by, Grant}
-use Rattle.ob_core.proofs.FoundLemmas.{total_half-packed}
+use Rattle.ob_core.proofs.StepLemmas.{total_half-packed}
 use Rattle.ob_core.specs.declared.lane_step.LaneStep.{LaneStep}
 use Rattle.ob_core.specs.declared.lane_step.LaneStep.TheVariants.{Add, Subtract, SetBit, ClearBit, Load}
 use Rattle.ob_core.proofs.AccountsLemmas.{owed_by-le-total, total-le-outside, shown-held}

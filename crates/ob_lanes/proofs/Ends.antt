@@ -12,8 +12,7 @@ use Rattle.ob_lanes.specs.Ruled.{HasEnded}
 use Rattle.std.proofs.lemmas.List.Elements.{All-weaker}
 use Rattle.ob_lanes.specs.Inside.{IsEnd}
 use Rattle.ob_lanes.specs.declared.facts.Facts.{Facts}
-use Rattle.ob_core.proofs.AccountsLemmas.{shown-held}
-use Rattle.ob_core.proofs.EndLemmas.{nothing_left, mark_clear}
+use Rattle.ob_core.proofs.AccountsLemmas.{shown-held, nothing_left, mark_clear}
 use Rattle.ob_lanes.proofs.KeptAccounts.{not_opened}
 use Rattle.ob_lanes.proofs.Moves.{core, stands, begins_seen}
 use Rattle.ob_lanes.proofs.Views.{slice_get_map, made_at-here, spent-apart}

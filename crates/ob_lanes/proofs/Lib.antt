@@ -4,12 +4,10 @@ pub mod Ends
 pub mod Halves
 pub mod HeldBits
 pub mod KeptAccounts
-pub mod Masks
 pub mod Moves
 pub mod Packs
 pub mod Runs
 pub mod Seats
 pub mod Tries
-pub mod Turns
 pub mod Views
 pub mod WorkedRuns

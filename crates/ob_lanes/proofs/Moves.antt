@@ -15,7 +15,7 @@ use Rattle.ob_core.specs.Step.{IsCoreStep, core_after_step, CanMake, total_after
 use Rattle.ob_core.specs.declared.lane.Lane.{Lane}
 use Rattle.ob_core.specs.declared.lane_step.LaneStep.{LaneStep}
 use Rattle.ob_core.proofs.AccountsLemmas.{AccountsHold-step, total-le-room}
-use Rattle.ob_core.proofs.FoundLemmas.{word_half-packed, total_half-packed}
+use Rattle.ob_core.proofs.StepLemmas.{word_half-packed, total_half-packed}
 use Rattle.ob_lanes.specs.Ruled.{Ruled, HaveEnded, HasRun, core_of, packed_after, Told, PackedTold, FactsSee}
 use Rattle.ob_lanes.specs.Run.{BeginsWithAll, facts_after, IsInRun, Sees}
 use Rattle.ob_lanes.specs.declared.facts.Facts.{Facts}

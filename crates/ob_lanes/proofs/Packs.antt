@@ -9,7 +9,7 @@ use Rattle.ob_types.specs.Marks.{packed, word_half, total_half, Marks}
 use Rattle.ob_core.specs.World.{is_set, with_bit, without_bit}
 use Rattle.ob_core.specs.Step.{raised_word, lowered_word}
 use Rattle.ob_core.proofs.BitLemmas.{pow-le-of_bit, or-is-with_bit, and-is-without_bit}
-use Rattle.ob_core.proofs.FoundLemmas.{word_half-packed, total_half-packed}
+use Rattle.ob_core.proofs.StepLemmas.{word_half-packed, total_half-packed}
 
 -- a number is that of its two halves
 pub halves_packed : (found : ℕ) → packed (word_half found) (total_half found) ≡ found

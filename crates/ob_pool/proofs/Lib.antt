@@ -1,4 +1,9 @@
-pub mod Histories
+pub mod Counted
+pub mod Ending
+pub mod Faultless
+pub mod Handing
 pub mod Jobs
-pub mod Passes
-pub mod Plans
+pub mod Passing
+pub mod PlannedRuns
+pub mod Settled
+pub mod Taking

@@ -1,21 +1,11 @@
 -- What a buffer holds, and what its fields say of that.
-pub mod Admitted
-pub mod Blocks
-pub mod Borrowed
-pub mod Entries
-pub mod EntrySettlements
 pub mod Fields
 pub mod Gathered
 pub mod Held
-pub mod Leaving
 pub mod LetGo
 pub mod Looked
-pub mod Made
 pub mod Rooms
 pub mod Runs
 pub mod States
-pub mod Pieces
-pub mod Sending
-pub mod Skipped
+pub mod Steps
 pub mod Taken
-pub mod Times

@@ -1,6 +1,6 @@
 pub mod Inside
-pub mod Opening
 pub mod Rows
 pub mod Simulating
+pub mod UserBits
 pub mod Word
 pub mod Words

@@ -1,5 +1,4 @@
 -- The rows of a history, and what commands do to them.
-pub mod Acceptance
 pub mod Accepting
 pub mod Along
 pub mod EachRow
@@ -7,7 +6,5 @@ pub mod Fronts
 pub mod History
 pub mod Limits
 pub mod Order
-pub mod Parts
-pub mod Reached
-pub mod Sent
+pub mod RowByRow
 pub mod Told

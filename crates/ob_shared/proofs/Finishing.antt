@@ -1,23 +1,33 @@
--- What stands in a history and what is foreign to it, of all that callers hand in.
-use Rattle.std.proofs.Common.{◌≡◌, ◌≢◌, ℕ, ◌+◌, ◌<◌, ◌≤◌, ◌==◌, Bool, true, false, List, [], ◌∷◌, length, map, take, refl}
-use Rattle.std.proofs.Common.{get_or, sym, ap, ◌∙◌, subst, arith, length-take}
-use Rattle.std.specs.Prelude.{Option, Some, None, not, option_map, sum_by}
-use Rattle.std.specs.List.{All, AllPairs}
+-- What a history tells of a promise whose state is known, and what stands in it and is foreign to it, of all that
+-- callers hand in.
+use Rattle.std.proofs.Common.{◌≡◌, ℕ, true, List, subst, ◌≢◌, ◌+◌, ◌<◌, ◌≤◌, ◌==◌, Bool, false, [], ◌∷◌, length, map}
+use Rattle.std.proofs.Common.{take, refl, get_or, sym, ap, ◌∙◌, arith, length-take}
+use Rattle.std.proofs.lemmas.Option.{get_or_from_slice_get, slice_get_within, slice_get_read}
 use Rattle.std.proofs.lemmas.Bool.{eqb-true}
 use Rattle.std.proofs.lemmas.List.{get_or-take, get_or-map, length-map}
-use Rattle.std.proofs.lemmas.Option.{slice_get_read}
 use Rattle.std.proofs.lemmas.List.Elements.{All-take, All-map, All-head, All-tail}
 use Rattle.std.proofs.lemmas.List.Sums.{sum_by-cons}
-use Rattle.ob_seq.specs.Rows.{Settings}
-use Rattle.ob_history.specs.History.{IsFirstBreak, AreOwn, Holding, IsReceiptIn, IsSeenIn}
+use Rattle.std.specs.Prelude.{Some, slice_get, Option, None, not, option_map, sum_by}
+use Rattle.std.specs.List.{All, AllPairs}
+use Rattle.ob_types.specs.declared.promise.PromiseId.{PromiseId}
+use Rattle.ob_history.specs.History.{settles, IsFirstBreak, AreOwn, Holding, IsReceiptIn, IsSeenIn}
 use Rattle.ob_history.specs.declared.record.Record.{Record}
+use Rattle.ob_seq.specs.Rows.{Settings}
 use Rattle.ob_history.specs.declared.receipt.Receipt.{Receipt}
 use Rattle.ob_history.proofs.First.{first_against}
 use Rattle.ob_history.proofs.Own.{HoldsIts, all_are_held}
 use Rattle.ob_history.proofs.Told.{none_found}
-use Rattle.ob_shared.specs.Calls.{Handed, LacksShare, made_by, HandsInAll, StandsIn, first_short, is_short, BreaksAt}
-use Rattle.ob_shared.specs.Calls.{IsFirstForeign, IsForeign}
+use Rattle.ob_shared.specs.Calls.{IsCopiedFreely, IsToldFreely, Handed, LacksShare, made_by, HandsInAll, StandsIn}
+use Rattle.ob_shared.specs.Calls.{first_short, is_short, BreaksAt, IsFirstForeign, IsForeign}
 use Rattle.ob_shared.proofs.HandedIn.{each_handed_in_once}
+
+-- if what settles a promise is copied without an allocation, so is a record that stands in the history and settles it
+pub copied_freely : (records : List Record) (id : PromiseId) (place : ℕ) (one : Record) →
+    slice_get records place ≡ Some one → settles id one ≡ true → IsToldFreely records id → IsCopiedFreely one
+copied_freely records id place one there settled freely =
+    subst (λ (other : Record). settles id other ≡ true → IsCopiedFreely other)
+    (get_or_from_slice_get records place one one there)
+    (freely place one (slice_get_within records place one there)) settled
 
 -- a list breaks a property at the place that the item names with which it first does
 pub breaks_at : {A : Type 0} (property : List A → Type 0) (place_of : A → ℕ) (items : List A) (index : ℕ) (item : A) →

@@ -1,6 +1,5 @@
 pub mod Calling
 pub mod Finishing
 pub mod HandedIn
-pub mod Promises
 pub mod Publishing
 pub mod Seats

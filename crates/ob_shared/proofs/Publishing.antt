@@ -9,7 +9,7 @@ use Rattle.atomic_table.proofs.Lists.{at_set, at_snoc, set_else}
 use Rattle.ob_seq.specs.Rows.{Settings}
 use Rattle.ob_history.specs.History.{IsBeginning, IsLegal, glance_after}
 use Rattle.ob_history.specs.declared.record.Record.{Record}
-use Rattle.ob_history.proofs.Beginnings.{begins_itself, begins_further, none_begin}
+use Rattle.ob_history.proofs.Lists.{begins_itself, begins_further, none_begin}
 use Rattle.ob_shared.specs.Published.{Knows, Learns, Reads, Fits, Ruled, publishing, reading}
 use Rattle.ob_shared.specs.Calls.{packed_glance}
 use Rattle.ob_shared.specs.declared.rule.View.{View}

@@ -10,7 +10,7 @@ use lib.ListN.{get_elem?}
 use Rattle.atomic_table.specs.Table.{Act, Allows, Splits, Joins, Valid, keeps, stepped, carried_after, opening}
 use Rattle.atomic_table.proofs.Lists.{at_longer, at_set, exchanged, set_else}
 use Rattle.ob_types.specs.Marks.{packed}
-use Rattle.ob_seq.proofs.Word.Marks.{word_at_start}
+use Rattle.ob_seq.proofs.Word.{word_at_start}
 use Rattle.ob_connection.specs.Connected.{StandsFor}
 use Rattle.ob_shared_connection.specs.Ruled.{bell_word, Fits, HasShare, IsShown, IsVacant, Past, Ruled, both_views}
 use Rattle.ob_shared_connection.specs.Ruled.{calls_with, count_if, first_view, handles_of, named_view, new_view}

@@ -22,7 +22,7 @@ use Rattle.ob_seq.specs.Rows.{front, is_in_line, line, Row, new_row, unread_part
 use Rattle.ob_seq.proofs.Rows.Accepting.{kept_along_within, not_refused_within, open_and_fit_within}
 use Rattle.ob_seq.proofs.Rows.History.{accepted_by, closed_more, rows_after_more}
 use Rattle.ob_seq.proofs.Rows.Order.{IsFresh, IsStanding, Layout, each_append, flush_parts, layout_of, reached_stands}
-use Rattle.ob_seq.proofs.Rows.Parts.{front_of_parts, line_of_parts}
+use Rattle.ob_seq.proofs.Rows.Order.{front_of_parts, line_of_parts}
 use Rattle.ob_connection.specs.Connected.{connection_limit}
 use Rattle.ob_shared_connection.specs.Values.{leaves_flushed}
 use Rattle.ob_shared_connection.specs.Sending.{BytesStay, Stays, blocks_after}

@@ -1,1 +1,2 @@
-pub mod Lemmas
+pub mod Axis
+pub mod SummaryLines

@@ -2,10 +2,8 @@ pub mod Asked
 pub mod Beginnings
 pub mod Booked
 pub mod Assured
+pub mod Open
+pub mod Sent
 pub mod Turns
 pub mod Offers
-pub mod Open
-pub mod Records
-pub mod Sent
-pub mod Standings
 pub mod Passes

@@ -1,9 +1,12 @@
--- With something in line a buffer is open, and a region has a length that was accepted.
+-- With something in line a buffer is open and a region has a length that was accepted; where a transport stands, part
+-- by part.
 use Rattle.std.proofs.Common.{◌≡◌, ℕ, ◌≤◌, Bool, true, false, List, [], ◌∷◌, ◌++◌, map, refl, sym, ap, ◌∙◌, subst, cond}
-use Rattle.std.proofs.Common.{ltb, ◌||◌, arith}
+use Rattle.std.proofs.Common.{ltb, ◌||◌, arith, eqb}
+use Rattle.std.proofs.lemmas.Bool.Decides.{nat_tests}
+use Rattle.std.proofs.lemmas.List.Folds.{list_any-append}
+use Rattle.std.proofs.lemmas.List.Sums.{fold-append}
 use Rattle.std.specs.Prelude.{Option, Some, None}
 use Rattle.std.specs.List.{AllByRecursion}
-use Rattle.std.proofs.lemmas.Bool.Decides.{nat_tests}
 use Rattle.ob_types.specs.PendingSize.{counted_bytes, is_oversize}
 use Rattle.ob_types.specs.declared.command.Command.{Command}
 use Rattle.ob_types.specs.declared.command.Command.TheVariants.{Write, Flush, Remove, RemoveWith, RemoveBytes, Progress}
@@ -21,8 +24,9 @@ use Rattle.ob_seq.specs.State.{is_close, is_closed}
 use Rattle.ob_seq.specs.Effect.{closed_row, effect, rows_after}
 use Rattle.ob_seq.proofs.Rows.Accepting.{kept_along_accepted, open_and_fit}
 use Rattle.ob_seq.proofs.Rows.EachRow.{Shrink, effect_shrinks}
-use Rattle.std.proofs.lemmas.List.Folds.{list_any-append}
-use Rattle.std.proofs.lemmas.List.Sums.{fold-append}
+use Rattle.ob_history.specs.History.{history_after, History}
+use Rattle.ob_transport.specs.Pass.{booked_units, standing}
+use Rattle.ob_transport.specs.Sent.{Content}
 
 module _ (estimate : Estimate) where
   -- the rows after one more command
@@ -186,3 +190,36 @@ module _ (settings : Settings) where
   region_within commands all row length is part =
       let short = kept_along_accepted settings ShortAfter one_more_short [] commands all tt in
       length_within row length (found_short (rows_after estimate commands) row short is) part
+
+-- with the same history and the same content a transport stands at the same
+pub same_standing : {history history' : History} {sink sink' : Content} → history ≡ history' → sink ≡ sink' →
+    standing history sink ≡ standing history' sink'
+same_standing {history} {history'} {sink} {sink'} histories sinks =
+    ap (λ first. standing first sink) histories ∙ ap (λ second. standing history' second) sinks
+
+-- a command given by the same caller to the same history leaves the same
+pub same_after : {history history' : History} {caller caller' : ℕ} (command : Command) → history ≡ history' →
+    caller ≡ caller' →
+    history_after history caller command ≡ history_after history' caller' command
+same_after {history} {history'} {caller} {caller'} command histories callers =
+    ap (λ first. history_after first caller command) histories
+    ∙ ap (λ second. history_after history' second command) callers
+
+-- the units of the whole rest are booked by their progress and the removal of the front, and others by their progress
+pub whole_rest : (caller rest n : ℕ) (history : History) → n ≡ rest →
+    booked_units caller rest n history ≡ history_after (history_after history caller (Progress n)) caller Remove
+whole_rest caller rest n history is =
+    let progressed = history_after history caller (Progress n) in
+    ap (λ whole. cond whole (history_after progressed caller Remove) progressed) (test n rest is)
+  where
+    test : (n rest : ℕ) → n ≡ rest → eqb n rest ≡ true
+    test n rest is = grind (arith, nat_tests)
+
+pub part_of_rest : (caller rest n : ℕ) (history : History) → ¬ (n ≡ rest) →
+    booked_units caller rest n history ≡ history_after history caller (Progress n)
+part_of_rest caller rest n history not =
+    let progressed = history_after history caller (Progress n) in
+    ap (λ whole. cond whole (history_after progressed caller Remove) progressed) (test n rest not)
+  where
+    test : (n rest : ℕ) → ¬ (n ≡ rest) → eqb n rest ≡ false
+    test n rest not = grind (arith, nat_tests)

@@ -1,14 +1,15 @@
--- What a buffer holds, by the rows and by their parts.
-use Rattle.ob_seq.proofs.Words.{[], ◌≡◌, false, List, ◌∷◌, ◌++◌, length, map, sym, ap, ◌∙◌, refl, arith}
-use Rattle.ob_seq.proofs.Words.{AllByRecursion, length-append, length-map, Marks, Command, PromiseState, Settings, Row}
-use Rattle.ob_seq.proofs.Words.{line, unflushed, total, effect, rows_after, is_close, is_closed, marks_after, Moment, moments_of}
-use Rattle.ob_seq.proofs.Words.{word_after, entry_of, Pending, Leaves, pending_total}
-use Rattle.ob_seq.proofs.Words.{unflushed_id, front_id, ℕ, ◌+◌, sum_by-cons, counted_size, sum_of, PendingEntry}
+-- What a buffer holds, by the rows and by their parts, from the opening on.
+use Rattle.ob_seq.proofs.Words.{[], ◌≡◌, false, List, ◌∷◌, ◌++◌, length, map, sym, ap, ◌∙◌, refl, arith, AllByRecursion}
+use Rattle.ob_seq.proofs.Words.{length-append, length-map, Marks, Command, PromiseState, Settings, Row, line, unflushed}
+use Rattle.ob_seq.proofs.Words.{total, effect, rows_after, is_close, is_closed, marks_after, Moment, moments_of}
+use Rattle.ob_seq.proofs.Words.{word_after, entry_of, Pending, Leaves, pending_total, unflushed_id, front_id, ℕ, ◌+◌}
+use Rattle.ob_seq.proofs.Words.{sum_by-cons, counted_size, sum_of, PendingEntry, whole, filter, messages_to_send}
+use Rattle.ob_seq.proofs.Words.{is_flushed, unread_part}
 use Rattle.ob_seq.proofs.Rows.History.{closed_more, rows_after_more}
-use Rattle.ob_seq.proofs.Word.Marks.{IsQuiet, marks_more, marks_with, past_after, word_from, word_is_from}
-use Rattle.ob_seq.proofs.Word.Marks.{word_is_from_more}
-use Rattle.ob_seq.proofs.Rows.Order.{IsGone, IsStanding, IsFresh, layout_of}
-use Rattle.ob_seq.proofs.Rows.Parts.{line_of_parts, unflushed_of_parts}
+use Rattle.ob_seq.proofs.Word.{IsQuiet, marks_more, marks_with, past_after, word_from, word_is_from, word_is_from_more}
+use Rattle.ob_seq.proofs.Word.{word_at_start}
+use Rattle.ob_seq.proofs.Rows.Order.{IsGone, IsStanding, IsFresh, layout_of, line_of_parts, unflushed_of_parts}
+use Rattle.ob_seq.specs.Unsent.{nothing_unsent}
 
 -- the entries in line and those that no flush has reached count together what the rows count
 pub sum_of_rows : (rows : List Row) →
@@ -142,3 +143,14 @@ module _ (buffer : Pending) (commands : List Command) (leaves : Leaves buffer co
       ≡ word_after buffer.settings (commands ++ command ∷ [])
   word_at_end command moments quiet same =
       rw (leaves.marks, ← same) (sym (word_is_from_more buffer.settings commands command quiet))
+
+pub leaves_at_start : (settings : Settings) → Leaves (whole [] (nothing_unsent settings)) []
+leaves_at_start settings =
+    let word = sym (word_at_start settings) in
+    record { closed = refl; marks = refl; line = refl; unflushed = refl; promises = refl; word = word }
+
+-- the messages of the line are those of the flushed rows
+pub to_send_is : (rows : List Row) →
+    messages_to_send (map entry_of (line rows)) ≡ map unread_part (filter (λ row. is_flushed row.place) rows)
+to_send_is [] = refl
+to_send_is (row ∷ rows) = let rest = to_send_is rows in grind arith

@@ -6,8 +6,8 @@ use Rattle.std.specs.Prelude.{option_map}
 use Rattle.ob_seq.specs.Looks.{gathered_after, before_unwritable, before_writable, current_after, look_after}
 use Rattle.ob_seq.specs.Looks.{progress_of}
 use Rattle.ob_seq.specs.declared.look.Look.{Look}
-use Rattle.ob_seq.proofs.Simulating.BytesRemoved.{run_is}
-use Rattle.ob_seq.proofs.Simulating.Written.{pending_total_stands}
+use Rattle.ob_seq.proofs.Simulating.Removed.{run_is}
+use Rattle.ob_seq.proofs.Simulating.Simulation.{pending_total_stands}
 
 -- the progress of the first entry is that of the front
 first_progress_is : (rows : List Row) → first_progress (map entry_of (line rows)) ≡ progress_of (front rows)

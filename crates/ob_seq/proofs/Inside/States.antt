@@ -10,8 +10,8 @@ use Rattle.std.proofs.Math.Seq.{map-set_same}
 use Rattle.std.proofs.lemmas.List.{drop_at, take_at, get_or-append_right, get_or-map, set-append_right, map-set}
 use Rattle.std.proofs.lemmas.List.{drop_more, drop-set-lt, take_more_set, get_or_default, set-get_or, length-take, length-drop}
 use Rattle.std.proofs.lemmas.List.{get_or-take, get_or-drop, take-set-le, drop-set-add}
-use Rattle.ob_seq.proofs.Inside.Entries.{total_of, both_runs, first_not_back, rest_not_back}
-use Rattle.ob_seq.proofs.Inside.Times.{times_first}
+use Rattle.ob_seq.proofs.Inside.Fields.{total_of, both_runs, first_not_back, rest_not_back}
+use Rattle.ob_seq.proofs.Inside.Steps.{times_first}
 use Rattle.std.proofs.Math.ListN.{get_or-append}
 use Rattle.ob_seq.specs.Steps.Commands.{is_next_cancelled, written}
 use Rattle.ob_seq.specs.Steps.Step.{state_at}

@@ -10,8 +10,7 @@ use Rattle.ob_seq.proofs.Words.{AllByRecursion, PromiseState, rows_after, writes
 use Rattle.std.specs.List.{AllZip}
 use Rattle.std.proofs.lemmas.List.Elements.{length_all_zip}
 use Rattle.ob_seq.proofs.Rows.Order.{IsFresh, IsGone, IsStanding, Layout, each_append, first_more, first_none}
-use Rattle.ob_seq.proofs.Rows.Order.{layout_of}
-use Rattle.ob_seq.proofs.Rows.Order.{sent}
+use Rattle.ob_seq.proofs.Rows.Order.{layout_of, sent}
 pub use Rattle.ob_seq.proofs.Rows.Order.{taken_back}
 
 -- the outcome with which a promise is settled, if there is such a promise and it is

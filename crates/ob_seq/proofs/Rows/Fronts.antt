@@ -6,12 +6,12 @@ use Rattle.ob_seq.proofs.Words.{settlements_from, reply_of, entry_of, Pending, L
 use Rattle.ob_seq.proofs.Words.{front_promise_after, position_or_len}
 use Rattle.ob_seq.specs.Answer.{answer_of}
 use Rattle.ob_seq.specs.State.{gives_notice}
-use Rattle.ob_seq.proofs.Rows.Acceptance.{same_reply}
+use Rattle.ob_seq.proofs.Rows.History.{same_reply}
 use Rattle.ob_seq.proofs.Rows.Along.{moments_past, settlements_past}
-use Rattle.ob_seq.proofs.Inside.Held.{Held, front_id_is, held_of, line_count, opening, opening_with, left_by_parts, word_at_end}
-use Rattle.ob_seq.proofs.Word.Marks.{IsQuiet, past_after, word_from}
-use Rattle.ob_seq.proofs.Rows.Order.{layout_of}
-use Rattle.ob_seq.proofs.Rows.Parts.{index_of_parts}
+use Rattle.ob_seq.proofs.Inside.Held.{Held, front_id_is, held_of, line_count, opening, opening_with, left_by_parts}
+use Rattle.ob_seq.proofs.Inside.Held.{word_at_end}
+use Rattle.ob_seq.proofs.Word.{IsQuiet, past_after, word_from}
+use Rattle.ob_seq.proofs.Rows.Order.{layout_of, index_of_parts}
 
 -- the rows of a history
 abbrev pub rows_of : Pending → List Command → List Row

@@ -1,10 +1,28 @@
--- One more command at the end of a history.
-use Rattle.ob_seq.proofs.Words.{[], ◌≡◌, List, ◌∷◌, ◌++◌, append_assoc, append-nil, true, false, arith, None}
-use Rattle.ob_seq.proofs.Words.{Estimate, Command, Settings, effect, rows_after, is_close, is_closed, ℕ, Option}
-use Rattle.ob_seq.specs.Answer.{first_refusal_within, refusal_within, is_accepted_within, are_accepted_within}
+-- One more command at the end of a history, an open one, and replies by their parts.
 use Rattle.std.proofs.lemmas.Bool.{and_parts}
 use Rattle.std.proofs.lemmas.List.Folds.{list_any-append}
 use Rattle.std.proofs.lemmas.List.Sums.{fold-append}
+use Rattle.ob_types.specs.declared.reply.Answer.{Answer}
+use Rattle.ob_types.specs.declared.reply.Change.{Change}
+use Rattle.ob_seq.proofs.Words.{◌≡◌, false, List, Option, Command, PromiseId, Outcome, Reply, Settings, is_closed}
+use Rattle.ob_seq.proofs.Words.{Pending, Leaves, [], ◌∷◌, ◌++◌, append_assoc, append-nil, true, arith, None, Estimate}
+use Rattle.ob_seq.proofs.Words.{effect, rows_after, is_close, ℕ}
+use Rattle.ob_seq.specs.Answer.{first_refusal_within, refusal_within, is_accepted_within, are_accepted_within}
+
+-- the commands that left a buffer that is not closed hold no close
+pub open_history : (settings : Settings) (commands : List Command) (command : Command) (buffer : Pending) →
+    Leaves buffer commands → buffer.closed ≡ false → is_closed commands ≡ false
+open_history settings commands command buffer leaves unclosed = cc
+
+-- a reply by its parts
+abbrev pub reply_from : Answer → List (PromiseId × Outcome) → Option Change → Reply
+reply_from answer settled change = record { answer = answer; settled = settled; change = change }
+
+-- two replies with the same parts are the same
+pub same_reply : {answer answer' : Answer} {settled settled' : List (PromiseId × Outcome)}
+    {change change' : Option Change} → answer ≡ answer' → settled ≡ settled' → change ≡ change' →
+    reply_from answer settled change ≡ reply_from answer' settled' change'
+same_reply answers settlements changes = cc
 
 -- the rows after one more command
 pub rows_after_more : (estimate : Estimate) (commands : List Command) (command : Command) →

@@ -11,7 +11,7 @@ use Rattle.ob_seq.specs.Pending.{Obeys}
 use Rattle.ob_seq.specs.Steps.Commands.{removal_step}
 use Rattle.ob_seq.specs.Steps.Step.{Makes}
 use Rattle.ob_seq.specs.Steps.Within.{StepsWithin}
-use Rattle.ob_seq.proofs.Inside.Made.{first_where_open, makes_refused, makes_wanting}
+use Rattle.ob_seq.proofs.Inside.Steps.{first_where_open, makes_refused, makes_wanting}
 use Rattle.ob_seq.proofs.Simulating.Simulated.{obeys, spares, stays}
 
 -- one that lets no message go

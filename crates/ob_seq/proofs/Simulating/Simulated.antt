@@ -14,27 +14,22 @@ use Rattle.ob_seq.specs.Answer.{commands_with, refusal_of_progress, answer_withi
 use Rattle.ob_seq.specs.Pending.{Follows, Obeys, Settles}
 use Rattle.ob_seq.specs.Steps.Step.{Step, Makes, answer_by, held_by}
 use Rattle.ob_seq.specs.Steps.Commands.{bytes_step, progressed_entry, step_within}
-use Rattle.ob_seq.proofs.Inside.Blocks.{few_entries}
-use Rattle.ob_seq.proofs.Simulating.BytesRemoved.{bytes_removed_left, run_is}
-use Rattle.ob_seq.proofs.Simulating.Cancelled.{cancel_simulates}
-use Rattle.ob_seq.proofs.Simulating.Closing.{closing_simulates}
-use Rattle.ob_seq.proofs.Simulating.Failing.{failing_simulates}
-use Rattle.ob_seq.proofs.Simulating.MarksSet.{marks_simulate}
-use Rattle.ob_seq.proofs.Simulating.Removed.{removal, removal_simulates, removal_with}
-use Rattle.ob_seq.proofs.Simulating.Simulation.{Simulates, simulates_by}
-use Rattle.ob_seq.proofs.Inside.Skipped.{skipped_opening}
-use Rattle.ob_seq.proofs.Inside.Times.{settings_of_times}
-use Rattle.ob_seq.proofs.Word.UserBits.{bit_changed_left, reply_of_bit}
-use Rattle.ob_seq.proofs.Simulating.Written.{write_simulates}
-use Rattle.ob_seq.proofs.Rows.Acceptance.{open_history}
-use Rattle.ob_seq.proofs.Rows.History.{accepted_more}
+use Rattle.ob_seq.proofs.Inside.Gathered.{few_entries}
+use Rattle.ob_seq.proofs.Simulating.Removed.{bytes_removed_left, run_is, closing_simulates, failing_simulates, removal}
+use Rattle.ob_seq.proofs.Simulating.Removed.{removal_simulates, removal_with}
+use Rattle.ob_seq.proofs.Simulating.Simulation.{cancel_simulates, marks_simulate, Simulates, simulates_by}
+use Rattle.ob_seq.proofs.Simulating.Simulation.{write_simulates}
+use Rattle.ob_seq.proofs.Inside.Taken.{skipped_opening}
+use Rattle.ob_seq.proofs.Inside.Steps.{settings_of_times}
+use Rattle.ob_seq.proofs.UserBits.{bit_changed_left, reply_of_bit}
+use Rattle.ob_seq.proofs.Rows.History.{open_history, accepted_more}
 use Rattle.ob_seq.proofs.Rows.Along.{moments_past, settlements_past, moment_of_same, moments_in_one, settlement_same}
 use Rattle.ob_seq.proofs.Rows.Along.{settlements_in_one}
 use Rattle.ob_seq.proofs.Inside.Held.{word_at_end, held_of, held_rows, fresh_count, word_by_past}
-use Rattle.ob_seq.proofs.Word.Marks.{past_after, word_after_same}
+use Rattle.ob_seq.proofs.Word.{past_after, word_after_same}
 use Rattle.ob_seq.proofs.Rows.Order.{Layout, layout_of, flush_parts, with_front_gone, with_front_standing}
 use Rattle.ob_seq.proofs.Rows.Order.{progressed_stands}
-use Rattle.ob_seq.proofs.Rows.Reached.{all_reached, settlements_of_reached}
+use Rattle.ob_seq.proofs.Rows.RowByRow.{all_reached, settlements_of_reached}
 use Rattle.ob_seq.proofs.Rows.Fronts.{fronted}
 
 -- the flush simulates the command

@@ -31,7 +31,7 @@ impl Contents {
 }
 
 /// The word after the pending bytes rose by `size` to `total`. A rise by 0 is none.
-#[tactic(auto, using(crate::proofs::Word::WordBits::bit_or_one))]
+#[tactic(auto, using(crate::proofs::Word::bit_or_one))]
 pub fn after_rise(marks: WaterMark, word: u32, size: u32, total: u32) -> u32
     ensures { result ≡ word_after_rise marks word size total }
 {

@@ -1,7 +1,7 @@
 use Rattle.std.proofs.Common.{rules, subst}
 use Rattle.ob_history.specs.History.{IsLegal}
 use Rattle.ob_cli.specs.Drive.{drive_grammar}
-use Rattle.ob_cli.proofs.Lemmas.Drive.Ending.{unwritten}
+use Rattle.ob_cli.proofs.DriveLines.{unwritten}
 use Rattle.ob_cli.proofs.drive.drive_script.Goals as goal
 
 -- Named for the must-fail edits that fail here: `search` finds it unasked (CONTRIBUTING.md).

@@ -2,7 +2,7 @@ use Rattle.std.proofs.Common.{◌∙◌, subst, sym, take}
 use Rattle.ob_cli.specs.Drive.{drive_grammar}
 use Rattle.ob_cli.specs.Inside.{HasKept}
 use Rattle.ob_script.specs.Reading.{script_lines}
-use Rattle.ob_script.proofs.Lemmas.Reading.Cursor.{ends_at_nil, is_placed, read_further}
+use Rattle.ob_script.proofs.Places.{ends_at_nil, is_placed, read_further}
 use Rattle.ob_cli.proofs.drive.read_lines.Goals as goal
 
 pub loop-cursor-preserved : goal.loop-cursor-preserved

@@ -1,7 +1,6 @@
 use Rattle.std.proofs.Common.{ℕ, ◌≤◌, map, sym, ap, subst}
 use Rattle.ob_seq.specs.Pending.{times_settled}
-use Rattle.ob_history.proofs.Histories.{command_of}
-use Rattle.ob_history.proofs.Settling.{settlements_of_legal}
+use Rattle.ob_history.proofs.Histories.{command_of, settlements_of_legal}
 use Rattle.ob_history.proofs.laws.a_history_settles_each_promise_once.Goals as goal
 
 pub returns : goal.returns

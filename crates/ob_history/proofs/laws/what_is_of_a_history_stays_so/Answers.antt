@@ -1,5 +1,5 @@
 use Rattle.ob_history.specs.History.{record_of}
-use Rattle.ob_history.proofs.Lasting.{slice_get-longer, seen_now_is_seen, seen_longer}
+use Rattle.ob_history.proofs.Staying.{slice_get-longer, seen_now_is_seen, seen_longer}
 use Rattle.ob_history.proofs.laws.what_is_of_a_history_stays_so.Goals as goal
 
 pub returns : goal.returns

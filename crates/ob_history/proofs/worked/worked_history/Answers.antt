@@ -1,7 +1,7 @@
 use Rattle.std.proofs.Common.{refl, arith}
 use Rattle.ob_seq.specs.State.{user_bits}
 use Rattle.ob_history.specs.Worked.{write_at, flush_of}
-use Rattle.ob_history.proofs.Counts.{counts_differ}
+use Rattle.ob_history.proofs.Lists.{counts_differ}
 use Rattle.ob_history.proofs.worked.worked_history.Goals as goal
 
 pub returns-clause-another_place : goal.returns-clause-another_place

@@ -3,7 +3,7 @@ use Rattle.std.specs.Prelude.{Some, slice_get}
 use Rattle.ob_history.specs.History.{AreOwn, receipt_of}
 use Rattle.ob_history.specs.Worked.{flush_of, refused_cancel, removal, worked_records, write_at}
 use Rattle.ob_history.specs.declared.record.Record.{Record}
-use Rattle.ob_history.proofs.Counts.{counts_differ}
+use Rattle.ob_history.proofs.Lists.{counts_differ}
 use Rattle.ob_history.proofs.worked.worked_receipts.Goals as goal
 
 pub returns-clause-exchanged : goal.returns-clause-exchanged

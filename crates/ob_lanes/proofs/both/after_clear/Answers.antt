@@ -1,7 +1,7 @@
 use Rattle.std.proofs.Common.{bit_and, ap, ◌∙◌}
 use Rattle.std.specs.Int.{bit_not, w64}
 use Rattle.ob_types.specs.Marks.{total_half, word_half}
-use Rattle.ob_lanes.proofs.Masks.{shifted}
+use Rattle.ob_lanes.proofs.HeldBits.{shifted}
 use Rattle.ob_lanes.proofs.Packs.{clear_both, clear_total}
 use Rattle.ob_lanes.proofs.both.after_clear.Goals as goal
 

@@ -1,6 +1,6 @@
 use Rattle.std.proofs.Common.{bit_or, ap, ◌∙◌}
 use Rattle.ob_types.specs.Marks.{total_half, word_half}
-use Rattle.ob_lanes.proofs.Masks.{shifted}
+use Rattle.ob_lanes.proofs.HeldBits.{shifted}
 use Rattle.ob_lanes.proofs.Packs.{set_both, set_total}
 use Rattle.ob_lanes.proofs.both.after_set.Goals as goal
 

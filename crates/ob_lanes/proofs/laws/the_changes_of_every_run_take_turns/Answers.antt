@@ -1,4 +1,4 @@
-use Rattle.ob_lanes.proofs.Turns.{turned}
+use Rattle.ob_lanes.proofs.Runs.{turned}
 use Rattle.ob_lanes.proofs.laws.the_changes_of_every_run_take_turns.Goals as goal
 
 pub returns : goal.returns

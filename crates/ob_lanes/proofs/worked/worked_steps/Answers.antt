@@ -12,7 +12,7 @@ use Rattle.ob_lanes.specs.Worked.{with_bits, bit_2_run, shows_bit_2}
 use Rattle.ob_lanes.specs.declared.facts.Facts.{Facts}
 use Rattle.ob_lanes.specs.declared.facts.Made.{Made}
 use Rattle.ob_lanes.specs.declared.facts.Move.{Move}
-use Rattle.ob_lanes.proofs.Masks.{same_up}
+use Rattle.ob_lanes.proofs.HeldBits.{same_up}
 use Rattle.ob_lanes.proofs.WorkedRuns.{first_found, set_seen, read_seen}
 use Rattle.ob_lanes.proofs.worked.worked_steps.Goals as goal
 

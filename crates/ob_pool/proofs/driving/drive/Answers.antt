@@ -3,8 +3,8 @@ use Rattle.std.specs.Prelude.{IfErr, IfOk, IsErrOf}
 use Rattle.std.proofs.lemmas.Result.{IfErr-weaker}
 use Rattle.ob_pool.specs.Drive.{first_history, ComesOfWork, NamesOneOf, number_of}
 use Rattle.ob_pool.specs.Report.{TellsOf}
-use Rattle.ob_pool.proofs.Jobs.Faults.{comes_late, names_one, refused_late, refused_when_full}
-use Rattle.ob_pool.proofs.Plans.Faultless.{no_fault, whatever_fault}
+use Rattle.ob_pool.proofs.Jobs.{comes_late, names_one, refused_late, refused_when_full}
+use Rattle.ob_pool.proofs.Faultless.{no_fault, whatever_fault}
 use Rattle.ob_pool.proofs.driving.drive.Goals as goal
 
 pub returns-in-Err-clause-refused : goal.returns-in-Err-clause-refused

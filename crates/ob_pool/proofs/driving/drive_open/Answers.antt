@@ -13,12 +13,10 @@ use Rattle.ob_pool.specs.Inside.{HaveHandedIn}
 use Rattle.ob_pool.specs.Report.{IsCounted, AreAtRest}
 use Rattle.ob_pool.specs.Threads.{IsNumbered}
 use Rattle.ob_pool.specs.declared.report.Report.{Report}
-use Rattle.ob_pool.proofs.Histories.Ending.{HaveEnded, all_carried, callers_told, failings_told, numbered_from}
-use Rattle.ob_pool.proofs.Jobs.Faults.{comes_of_more}
-use Rattle.ob_pool.proofs.Plans.PlannedSteps.{no_failing_step, steps_are_planned}
-use Rattle.ob_pool.proofs.Histories.Quiet.{others_send_nothing}
-use Rattle.ob_pool.proofs.Jobs.Shares.{all_numbered}
-use Rattle.ob_pool.proofs.Passes.Taking.{taken_further, taken_whole}
+use Rattle.ob_pool.proofs.Ending.{HaveEnded, all_carried, callers_told, failings_told, numbered_from}
+use Rattle.ob_pool.proofs.Jobs.{comes_of_more, all_numbered}
+use Rattle.ob_pool.proofs.Faultless.{no_failing_step, steps_are_planned, others_send_nothing}
+use Rattle.ob_pool.proofs.Taking.{taken_further, taken_whole}
 use Rattle.ob_pool.proofs.driving.drive_open.Goals as goal
 
 -- all have handed in what they were asked

@@ -1,9 +1,8 @@
 use Rattle.std.proofs.Common.{◌≡◌, ◌∷◌, drop, length, take, ap, ◌∙◌, arith, rules}
 use Rattle.std.specs.Prelude.{slice_index_or, vec_capacity, vec_len}
 use Rattle.ob_shared.specs.Calls.{ShareValue}
-use Rattle.ob_pool.proofs.Jobs.Shares.{asked_more, next_share, roomy_more, rooms_more}
-use Rattle.ob_pool.proofs.Jobs.Steps.{place_next}
-use Rattle.ob_pool.proofs.Plans.Rooms.{next_room}
+use Rattle.ob_pool.proofs.Jobs.{asked_more, next_share, roomy_more, rooms_more, place_next}
+use Rattle.ob_pool.proofs.PlannedRuns.{next_room}
 use Rattle.ob_pool.proofs.opening.jobs_of.Goals as goal
 
 pub loop-plan-preserved : goal.loop-plan-preserved

@@ -4,7 +4,7 @@ use Rattle.std.proofs.lemmas.List.{length-map}
 use Rattle.std.proofs.lemmas.List.FromFn.{length-range_with_len}
 use Rattle.std.specs.List.{range_with_len}
 use Rattle.ob_shared.specs.Calls.{new_share}
-use Rattle.ob_pool.proofs.Jobs.Shares.{last_share}
+use Rattle.ob_pool.proofs.Jobs.{last_share}
 use Rattle.ob_pool.proofs.opening.open.Goals as goal
 
 pub unreachable-requires : goal.unreachable-requires

@@ -1,8 +1,7 @@
 use Rattle.std.proofs.Common.{rules, ◌≡◌, length, true, false, ap, ◌∙◌, arith}
 use Rattle.ob_pool.specs.Drive.{bad_step}
 use Rattle.ob_pool.specs.Inside.{commands_of}
-use Rattle.ob_pool.proofs.Plans.BadSteps.{first_bad, good_more, is_bad, within_all}
-use Rattle.ob_pool.proofs.Plans.Runs.{some_of}
+use Rattle.ob_pool.proofs.PlannedRuns.{first_bad, good_more, is_bad, within_all, some_of}
 use Rattle.ob_pool.proofs.planning.bad_step.Goals as goal
 
 pub returns-then-not-is_planned : goal.returns-then-not-is_planned

@@ -1,8 +1,7 @@
 use Rattle.std.proofs.Common.{max, take, sym, ap, ◌∙◌}
 use Rattle.ob_pool.specs.Drive.{room_of}
 use Rattle.ob_pool.specs.Inside.{commands_of}
-use Rattle.ob_pool.proofs.Plans.Rooms.{greater, room_more}
-use Rattle.ob_pool.proofs.Plans.Runs.{some_of}
+use Rattle.ob_pool.proofs.PlannedRuns.{greater, room_more, some_of}
 use Rattle.ob_pool.proofs.planning.room_of.Goals as goal
 
 pub loop-run-preserved : goal.loop-run-preserved

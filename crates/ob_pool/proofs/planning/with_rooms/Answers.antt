@@ -1,7 +1,7 @@
 use Rattle.std.proofs.Common.{◌≡◌, ◌<◌, length, map, take, sym, ap, ap₂, ◌∙◌, arith, rules}
 use Rattle.std.proofs.Math.Seq.{take-length}
 use Rattle.ob_pool.specs.Drive.{room_of, rooms_of}
-use Rattle.ob_pool.proofs.Plans.Rooms.{room_stored, rooms_stored}
+use Rattle.ob_pool.proofs.PlannedRuns.{room_stored, rooms_stored}
 use Rattle.ob_pool.proofs.planning.with_rooms.Goals as goal
 
 pub loop-plan-preserved : goal.loop-plan-preserved

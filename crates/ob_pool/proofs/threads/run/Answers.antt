@@ -2,7 +2,7 @@ use Rattle.std.proofs.Common.{rules}
 use Rattle.std.specs.Prelude.{IfErr}
 use Rattle.std.proofs.lemmas.Result.{IfErr-weaker}
 use Rattle.ob_pool.specs.Drive.{ComesOfWork}
-use Rattle.ob_pool.proofs.Jobs.Faults.{comes_of_more}
+use Rattle.ob_pool.proofs.Jobs.{comes_of_more}
 use Rattle.ob_pool.proofs.threads.run.Goals as goal
 
 pub returns-clause-fault : goal.returns-clause-fault

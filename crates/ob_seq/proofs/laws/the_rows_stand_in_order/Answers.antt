@@ -1,8 +1,7 @@
 use Rattle.ob_seq.proofs.Words.{◌≡◌, false, List, [], ◌∷◌, ◌++◌, refl, sym, subst, arith, AllByRecursion, Row, gone}
 use Rattle.ob_seq.proofs.Words.{is_gone}
 use Rattle.ob_seq.specs.Rows.{StandInOrder}
-use Rattle.ob_seq.proofs.Rows.Order.{IsFresh, IsGone, IsStanding, layout_of}
-use Rattle.ob_seq.proofs.Rows.Parts.{line_of_parts, unflushed_of_parts}
+use Rattle.ob_seq.proofs.Rows.Order.{IsFresh, IsGone, IsStanding, layout_of, line_of_parts, unflushed_of_parts}
 use Rattle.ob_seq.proofs.laws.the_rows_stand_in_order.Goals as goal
 
 -- the rows that are gone are the first part

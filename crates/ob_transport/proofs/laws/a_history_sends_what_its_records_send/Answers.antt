@@ -1,4 +1,4 @@
-use Rattle.ob_transport.proofs.Records.{bytes_by_records, units_by_records}
+use Rattle.ob_transport.proofs.Sent.{bytes_by_records, units_by_records}
 use Rattle.ob_transport.proofs.laws.a_history_sends_what_its_records_send.Goals as goal
 
 pub returns : goal.returns

@@ -1,6 +1,6 @@
 use Rattle.std.proofs.Common.{arith, ◌∙◌}
 use Rattle.ob_types.specs.declared.command.Command.TheVariants.{RemoveBytes}
-use Rattle.ob_transport.proofs.Standings.{same_after, same_standing}
+use Rattle.ob_transport.proofs.Open.{same_after, same_standing}
 use Rattle.ob_transport.proofs.sending.send_blocks.Goals as goal
 
 pub returns-in-Ok-clause-sends : goal.returns-in-Ok-clause-sends

@@ -2,7 +2,7 @@ use Rattle.std.proofs.Common.{arith, sym, ◌∙◌}
 use Rattle.ob_types.specs.declared.command.Command.TheVariants.{Remove, Progress}
 use Rattle.ob_history.specs.History.{with_reserved}
 use Rattle.ob_transport.proofs.Assured.{first_never_refused, second_never_refused}
-use Rattle.ob_transport.proofs.Standings.{part_of_rest, same_after, same_standing, whole_rest}
+use Rattle.ob_transport.proofs.Open.{part_of_rest, same_after, same_standing, whole_rest}
 use Rattle.ob_transport.proofs.sending.send_region.Goals as goal
 
 -- a call that was reserved is not refused: not the first

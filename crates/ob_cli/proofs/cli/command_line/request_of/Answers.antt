@@ -1,6 +1,6 @@
 use Rattle.std.proofs.Common.{◌≡◌, ◌⊎◌, inl}
 use Rattle.ob_cli.specs.Request.{exit_status_of}
-use Rattle.ob_script.proofs.Lemmas.Results.{IfErr-follows}
+use Rattle.ob_script.proofs.Results.{IfErr-follows}
 use Rattle.ob_cli.proofs.cli.command_line.request_of.Goals as goal
 
 pub returns : goal.returns

@@ -1,6 +1,6 @@
 use Rattle.std.proofs.Common.{◌≡◌, arith, rules}
 use Rattle.ob_cli.specs.Request.{status_of}
-use Rattle.ob_cli.proofs.Lemmas.Cli.Entry.{cut_short, out_of_memory, two_at_least, untraced, whole}
+use Rattle.ob_cli.proofs.Entered.{cut_short, out_of_memory, two_at_least, untraced, whole}
 use Rattle.ob_cli.proofs.cli.entry.start.Goals as goal
 
 pub returns-in-Err-clause-leaves : goal.returns-in-Err-clause-leaves

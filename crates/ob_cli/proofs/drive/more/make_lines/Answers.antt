@@ -8,7 +8,7 @@ use Rattle.ob_history.proofs.Histories.{accepted_with_next, found_at}
 use Rattle.ob_cli.specs.More.{line_behind, lines_of, shown_with}
 use Rattle.ob_cli.specs.Run.{first_history}
 use Rattle.ob_traces.specs.declared.traces.line.TraceLine.{TraceLine}
-use Rattle.ob_cli.proofs.Lemmas.Drive.More.{lines_of-one_more}
+use Rattle.ob_cli.proofs.DriveLines.{lines_of-one_more}
 use Rattle.ob_cli.proofs.drive.more.make_lines.Goals as goal
 
 pub loop-index-preserved : goal.loop-index-preserved

@@ -1,7 +1,7 @@
 use Rattle.ob_types.specs.declared.command.Command.TheVariants.{Cancel}
 use Rattle.ob_seq.specs.Steps.Commands.{cancel_step}
 use Rattle.ob_connection.specs.Obeying.{cancelled_reply}
-use Rattle.ob_connection.proofs.Making.{made_within}
+use Rattle.ob_connection.proofs.Steps.{made_within}
 use Rattle.ob_connection.proofs.Obeyed.{obeys, stays}
 use Rattle.ob_connection.proofs.connection.Connection.cancel.Goals as goal
 

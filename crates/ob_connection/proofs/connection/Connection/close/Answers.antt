@@ -7,8 +7,7 @@ use Rattle.ob_seq.specs.Steps.Commands.{closing_step}
 use Rattle.ob_seq.specs.Unsent.{pending_entry}
 use Rattle.ob_connection.specs.declared.replies.Taken.{Taken}
 use Rattle.ob_connection.specs.Obeying.{taken_reply}
-use Rattle.ob_connection.proofs.Kept.{nothing_told, same_change}
-use Rattle.ob_connection.proofs.Making.{closed, refused, steps_roomed, taken}
+use Rattle.ob_connection.proofs.Steps.{nothing_told, same_change, closed, refused, steps_roomed, taken}
 use Rattle.ob_connection.proofs.Obeyed.{obeys}
 use Rattle.ob_seq.proofs.Inside.LetGo.{flushed_left, none_left}
 use Rattle.ob_connection.proofs.Settling.{close_replied}

@@ -7,11 +7,11 @@ use Rattle.ob_types.specs.declared.promise.Outcome.TheVariants.{Failed}
 use Rattle.ob_seq.specs.Steps.Commands.{failing_step, front_taken, entry_settlements}
 use Rattle.ob_seq.specs.Steps.Step.{front_id, times}
 use Rattle.ob_seq.specs.Unsent.{pending_entries, pending_entry}
-use Rattle.ob_seq.proofs.Rows.Acceptance.{same_reply}
+use Rattle.ob_seq.proofs.Rows.History.{same_reply}
 use Rattle.ob_connection.specs.declared.replies.Taken.{Taken}
 use Rattle.ob_connection.specs.Obeying.{taken_reply}
-use Rattle.ob_connection.proofs.Kept.{nothing_told, same_change, some_past, word_of_times}
-use Rattle.ob_connection.proofs.Making.{becomes_roomed, closed, taken}
+use Rattle.ob_connection.proofs.Steps.{nothing_told, same_change, some_past, word_of_times, becomes_roomed, closed}
+use Rattle.ob_connection.proofs.Steps.{taken}
 use Rattle.ob_connection.proofs.Obeyed.{ids_within, obeys}
 use Rattle.ob_connection.proofs.Settling.{line_replied}
 use Rattle.ob_connection.proofs.Taking.{line_becomes, line_stands}

@@ -2,7 +2,7 @@ use Rattle.ob_connection.proofs.Words.{Ok}
 use Rattle.ob_types.specs.declared.command.Command.TheVariants.{Flush}
 use Rattle.ob_seq.specs.Steps.Commands.{flush_step}
 use Rattle.ob_connection.specs.Obeying.{flushed_reply}
-use Rattle.ob_connection.proofs.Making.{made_within}
+use Rattle.ob_connection.proofs.Steps.{made_within}
 use Rattle.ob_connection.proofs.Obeyed.{obeys, stays_within}
 use Rattle.ob_connection.proofs.connection.Connection.flush.Goals as goal
 

@@ -1,5 +1,5 @@
 use Rattle.ob_connection.proofs.Words.{arith}
-use Rattle.ob_seq.proofs.Inside.Sending.{to_send_is}
+use Rattle.ob_seq.proofs.Inside.Held.{to_send_is}
 use Rattle.ob_connection.proofs.connection.Connection.flushed.Goals as goal
 
 pub returns : goal.returns

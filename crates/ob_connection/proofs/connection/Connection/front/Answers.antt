@@ -2,7 +2,7 @@ use Rattle.ob_connection.proofs.Words.{◌≡◌, ◌<◌, arith, length, whole,
 use Rattle.std.proofs.lemmas.List.{length-map}
 use Rattle.ob_seq.specs.Unsent.{pending_entry}
 use Rattle.ob_seq.proofs.Rows.Fronts.{fronted, front_promise_is, no_front_promise}
-use Rattle.ob_connection.proofs.Kept.{front_id_there}
+use Rattle.ob_connection.proofs.Steps.{front_id_there}
 use Rattle.ob_connection.proofs.connection.Connection.front.Goals as goal
 
 pub returns-then-line_count-eq0 : goal.returns-then-line_count-eq0

@@ -1,6 +1,6 @@
 use Rattle.ob_connection.proofs.Words.{◌∙◌}
 use Rattle.std.proofs.lemmas.Result.{IfOk-weaker}
-use Rattle.ob_connection.proofs.Gathered.{gathered_there}
+use Rattle.ob_connection.proofs.Offered.{gathered_there}
 use Rattle.ob_connection.proofs.connection.Connection.gather.Goals as goal
 
 pub returns-clause-blocks : goal.returns-clause-blocks

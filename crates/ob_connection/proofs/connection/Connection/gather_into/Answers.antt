@@ -1,5 +1,5 @@
 use Rattle.ob_connection.proofs.Words.{arith}
-use Rattle.ob_connection.proofs.Gathered.{gathered_there}
+use Rattle.ob_connection.proofs.Offered.{gathered_there}
 use Rattle.ob_connection.proofs.connection.Connection.gather_into.Goals as goal
 
 pub returns-clause-blocks : goal.returns-clause-blocks

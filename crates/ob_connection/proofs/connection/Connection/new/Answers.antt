@@ -1,5 +1,5 @@
 use Rattle.ob_connection.proofs.Words.{[], refl, Connected}
-use Rattle.ob_seq.proofs.Opening.{leaves_at_start}
+use Rattle.ob_seq.proofs.Inside.Held.{leaves_at_start}
 use Rattle.ob_seq.specs.Rows.{Settings}
 use Rattle.ob_seq.specs.Unsent.{nothing_unsent}
 use Rattle.ob_connection.specs.Connected.{StandsFor}

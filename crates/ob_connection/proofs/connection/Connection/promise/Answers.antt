@@ -9,7 +9,7 @@ use Rattle.ob_seq.specs.Steps.Step.{state_at}
 use Rattle.ob_seq.proofs.Inside.Held.{promise_of}
 use Rattle.ob_connection.specs.Connected.{status_of, waiting_status}
 use Rattle.ob_connection.specs.declared.status.Status.TheVariants.{SettledBefore}
-use Rattle.ob_connection.proofs.Kept.{ids_are}
+use Rattle.ob_connection.proofs.Steps.{ids_are}
 use Rattle.ob_connection.proofs.connection.Connection.promise.Goals as goal
 
 -- what is reported of a promise goes by its state in what is held

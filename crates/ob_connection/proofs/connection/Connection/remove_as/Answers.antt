@@ -1,7 +1,7 @@
 use Rattle.ob_connection.proofs.Words.{◌+◌, Ok, Err, None, Some, arith}
 use Rattle.std.proofs.lemmas.Result.{err_from_is_err_and}
 use Rattle.ob_seq.specs.Kept.{removal}
-use Rattle.ob_connection.proofs.Making.{steps_roomed}
+use Rattle.ob_connection.proofs.Steps.{steps_roomed}
 use Rattle.ob_connection.proofs.Obeyed.{ids_within, obeys, stays}
 use Rattle.ob_connection.proofs.Taking.{removes}
 use Rattle.ob_connection.proofs.connection.Connection.remove_as.Goals as goal

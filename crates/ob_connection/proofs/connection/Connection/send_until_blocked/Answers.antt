@@ -13,8 +13,7 @@ use Rattle.ob_connection.specs.Sending.{AsksInTurns, IsDue}
 use Rattle.ob_connection.specs.declared.replies.Taken.{Taken}
 use Rattle.std.specs.Prelude.{max}
 use Rattle.ob_connection.proofs.Answered.{asks_all, asks_as, asks_more, asks_within}
-use Rattle.ob_connection.proofs.Kept.{same_change}
-use Rattle.ob_connection.proofs.Making.{taken}
+use Rattle.ob_connection.proofs.Steps.{same_change, taken}
 use Rattle.ob_connection.proofs.Obeyed.{obeys}
 use Rattle.ob_connection.proofs.Offered.{taken_twice}
 use Rattle.ob_connection.proofs.Sending.{due_after, ends_are, few_in_front, is_open, run_after}

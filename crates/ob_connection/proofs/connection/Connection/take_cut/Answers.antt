@@ -1,7 +1,7 @@
 use Rattle.ob_connection.proofs.Words.{◌+◌, arith, connected_of, Connected, sym, ap, ◌∙◌, subst}
 use Rattle.ob_seq.specs.Steps.Commands.{bytes_removed}
 use Rattle.ob_connection.specs.Inside.{IsCut}
-use Rattle.ob_connection.proofs.Making.{becomes_roomed}
+use Rattle.ob_connection.proofs.Steps.{becomes_roomed}
 use Rattle.ob_connection.proofs.Obeyed.{ids_within}
 use Rattle.ob_connection.proofs.Taking.{cut_becomes, cut_open, cut_stands}
 use Rattle.ob_connection.proofs.connection.Connection.take_cut.Goals as goal

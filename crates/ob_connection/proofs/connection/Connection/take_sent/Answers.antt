@@ -7,8 +7,7 @@ use Rattle.ob_seq.specs.Looks.{blocks_left}
 use Rattle.ob_seq.specs.Steps.Commands.{bytes_removed, bytes_reply, bytes_step, whole_cut}
 use Rattle.ob_seq.specs.declared.contents.cut.Cut.{Cut}
 use Rattle.ob_connection.specs.Obeying.{taken_reply}
-use Rattle.ob_connection.proofs.Kept.{same_change}
-use Rattle.ob_connection.proofs.Making.{closed, refused, taken}
+use Rattle.ob_connection.proofs.Steps.{same_change, closed, refused, taken}
 use Rattle.ob_connection.proofs.Obeyed.{obeys}
 use Rattle.ob_seq.proofs.Inside.LetGo.{a_cut, no_cut}
 use Rattle.ob_connection.proofs.Settling.{line_replied}

@@ -1,4 +1,4 @@
-use Rattle.ob_core.proofs.EndLemmas.{nothing_left, mark_clear}
+use Rattle.ob_core.proofs.AccountsLemmas.{nothing_left, mark_clear}
 use Rattle.ob_core.proofs.laws.accounts.a_free_lane_with_the_whole_room_ends_at_nothing.Goals as goal
 
 pub returns : goal.returns

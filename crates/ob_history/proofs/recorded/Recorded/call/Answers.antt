@@ -5,8 +5,7 @@ use Rattle.ob_history.specs.History.{call_answer, next_record, accepted_commands
 use Rattle.ob_history.specs.Inside.{history_of}
 use Rattle.ob_history.specs.declared.receipt.Receipt.{Receipt}
 use Rattle.ob_history.specs.declared.record.Record.{Record}
-use Rattle.ob_history.proofs.Calls.{answer_with_place}
-use Rattle.ob_history.proofs.Placing.{placed}
+use Rattle.ob_history.proofs.Calls.{answer_with_place, placed}
 use Rattle.ob_history.proofs.recorded.Recorded.call.Goals as goal
 
 -- Named for the must-fail edits that fail here: `search` finds it unasked (CONTRIBUTING.md).

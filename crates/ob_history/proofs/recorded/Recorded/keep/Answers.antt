@@ -1,7 +1,7 @@
 use Rattle.std.proofs.Common.{[], ◌∷◌, ◌++◌, ap, ◌∙◌, rules}
 use Rattle.ob_history.specs.History.{next_record, History, receipt_of}
 use Rattle.ob_history.specs.declared.receipt.Receipt.{Receipt}
-use Rattle.ob_history.proofs.Placing.{placed}
+use Rattle.ob_history.proofs.Calls.{placed}
 use Rattle.ob_history.proofs.recorded.Recorded.keep.Goals as goal
 
 pub returns-clause-kept : goal.returns-clause-kept

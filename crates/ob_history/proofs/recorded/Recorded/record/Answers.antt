@@ -9,7 +9,7 @@ use Rattle.ob_seq.specs.Pending.{StandsFor}
 use Rattle.ob_history.specs.History.{history_after, is_full, with_record, accepted_commands, IsLegal}
 use Rattle.ob_history.specs.Inside.{history_of, settings_of}
 use Rattle.ob_history.proofs.Calls.{after_with_place}
-use Rattle.ob_history.proofs.Rooms.{IsSound-more_room}
+use Rattle.ob_history.proofs.Staying.{IsSound-more_room}
 use Rattle.ob_history.proofs.Histories.{legal_with_next, accepted_with_next, same_record, same_history}
 use Rattle.ob_history.specs.declared.record.Record.{Record}
 use Rattle.ob_history.proofs.recorded.Recorded.record.Goals as goal

@@ -1,5 +1,5 @@
 use Rattle.std.proofs.Common.{arith, rules}
-use Rattle.ob_history.proofs.Rooms.{IsSound-kept_in, IsSound-more_room}
+use Rattle.ob_history.proofs.Staying.{IsSound-kept_in, IsSound-more_room}
 use Rattle.ob_history.proofs.recorded.Recorded.reserve.Goals as goal
 
 pub invariant_of-self : goal.invariant_of-self

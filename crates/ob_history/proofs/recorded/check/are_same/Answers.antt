@@ -1,5 +1,5 @@
 use Rattle.std.proofs.Common.{rules, ◌*◌, ◌/◌, length}
-use Rattle.ob_history.proofs.Chunks.{found_chunks, found_rest, found_same}
+use Rattle.ob_history.proofs.Lists.{found_chunks, found_rest, found_same}
 use Rattle.ob_history.proofs.recorded.check.are_same.Goals as goal
 
 pub returns-then-eq : goal.returns-then-eq

@@ -1,5 +1,5 @@
 use Rattle.std.proofs.Common.{◌<◌, [], ◌∷◌, ◌++◌, length, take, sym, ap, ◌∙◌, arith}
-use Rattle.ob_history.proofs.OwnReceipts.{own, with_another, with_own}
+use Rattle.ob_history.proofs.Own.{own, with_another, with_own}
 use Rattle.ob_history.proofs.recorded.own.receipts_of.Goals as goal
 use Rattle.ob_history.proofs.recorded.own.receipts_of.Goals.{then-one-caller+in_ok-receipt+in_ok-push, else-one-caller}
 

@@ -2,7 +2,7 @@ use Rattle.std.proofs.Common.{◌+◌, ◌^◌, ap, rules}
 use Rattle.std.specs.Int.{bit_not, w64}
 use Rattle.ob_core.specs.declared.lane_step.LaneStep.TheVariants.{ClearBit}
 use Rattle.ob_lanes.proofs.Allowed.{may_clear, told_of}
-use Rattle.ob_lanes.proofs.Masks.{held_within, shifted, same_others}
+use Rattle.ob_lanes.proofs.HeldBits.{held_within, shifted, same_others}
 use Rattle.ob_lanes.proofs.words.Words.clear_bit.Goals as goal
 
 pub fetch_and-requires : goal.fetch_and-requires

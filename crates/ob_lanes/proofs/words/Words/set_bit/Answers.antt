@@ -1,7 +1,7 @@
 use Rattle.std.proofs.Common.{◌+◌, ◌^◌, rules}
 use Rattle.ob_core.specs.declared.lane_step.LaneStep.TheVariants.{SetBit}
 use Rattle.ob_lanes.proofs.Allowed.{may_set, told_of}
-use Rattle.ob_lanes.proofs.Masks.{held_within, shifted, same_up}
+use Rattle.ob_lanes.proofs.HeldBits.{held_within, shifted, same_up}
 use Rattle.ob_lanes.proofs.words.Words.set_bit.Goals as goal
 
 pub fetch_or-requires : goal.fetch_or-requires

@@ -1,5 +1,5 @@
 use Rattle.std.proofs.Common.{sym, ◌∙◌}
-use Rattle.ob_pool.proofs.Plans.Runs.{fewer_in, rest_behind_run, rest_in_run, within_of}
+use Rattle.ob_pool.proofs.PlannedRuns.{fewer_in, rest_behind_run, rest_in_run, within_of}
 use Rattle.ob_pool.proofs.plan.Rest.advance.Goals as goal
 
 pub returns-then-left-gt1 : goal.returns-then-left-gt1

@@ -1,5 +1,5 @@
 use Rattle.std.proofs.Common.{◌∷◌, drop, sym, ap, ◌∙◌}
-use Rattle.ob_pool.proofs.Plans.Runs.{fewer_in, first_and_rest, within_of}
+use Rattle.ob_pool.proofs.PlannedRuns.{fewer_in, first_and_rest, within_of}
 use Rattle.ob_pool.proofs.plan.Rest.command.Goals as goal
 
 pub returns : goal.returns

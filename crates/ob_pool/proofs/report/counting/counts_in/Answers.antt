@@ -1,7 +1,6 @@
 use Rattle.std.proofs.Common.{[], ◌∷◌, ◌+◌, take}
 use Rattle.ob_pool.specs.Inside.{counts_in}
-use Rattle.ob_pool.proofs.Histories.CountedRecords.{counts_more}
-use Rattle.ob_pool.proofs.Histories.TrueCounts.{true_more}
+use Rattle.ob_pool.proofs.Counted.{counts_more, true_more}
 use Rattle.ob_pool.proofs.report.counting.counts_in.Goals as goal
 
 pub loop-one-preserved : goal.loop-one-preserved

@@ -3,9 +3,8 @@ use Rattle.ob_history.specs.History.{most_records}
 use Rattle.ob_pool.specs.Inside.{counts_of}
 use Rattle.ob_pool.specs.Report.{left_of}
 use Rattle.ob_pool.specs.declared.report.counts.Counts.{Counts}
-use Rattle.ob_pool.proofs.Histories.AcceptedCounts.{taken_fits_word}
-use Rattle.ob_pool.proofs.Histories.CountedRecords.{counts_fit_word}
-use Rattle.ob_pool.proofs.Histories.Settled.{Tally, tallied}
+use Rattle.ob_pool.proofs.Settled.{taken_fits_word, Tally, tallied}
+use Rattle.ob_pool.proofs.Counted.{counts_fit_word}
 use Rattle.ob_pool.proofs.report.counting.report_of.Goals as goal
 use Rattle.ob_pool.proofs.report.counting.report_of.Goals.{After-records-records}
 

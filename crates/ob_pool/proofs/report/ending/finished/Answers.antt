@@ -1,7 +1,7 @@
 use Rattle.std.proofs.Common.{◌≡◌, ◌++◌, [], ◌∷◌, length, ap, subst, ◌∙◌}
 use Rattle.std.specs.List.{All}
 use Rattle.ob_shared.specs.Calls.{Handed}
-use Rattle.ob_pool.proofs.Histories.Receipts.{none_short}
+use Rattle.ob_pool.proofs.Counted.{none_short}
 use Rattle.ob_pool.proofs.report.ending.finished.Goals as goal
 
 pub returns-in-Ok-clause-made : goal.returns-in-Ok-clause-made

@@ -4,8 +4,8 @@ use Rattle.ob_history.specs.History.{History}
 use Rattle.ob_history.specs.declared.receipt.Receipt.{Receipt}
 use Rattle.ob_shared.specs.Calls.{Handed}
 use Rattle.ob_pool.specs.Inside.{AreTrueIfFit, HaveHandedIn, counts_in, counts_of, receipts_in}
-use Rattle.ob_pool.proofs.Histories.Handing.{counts_told}
-use Rattle.ob_pool.proofs.Histories.TrueCounts.{true_sum}
+use Rattle.ob_pool.proofs.Handing.{counts_told}
+use Rattle.ob_pool.proofs.Counted.{true_sum}
 use Rattle.ob_pool.proofs.report.ending.into_report.Goals as goal
 
 pub report_of-requires : goal.report_of-requires

@@ -4,8 +4,7 @@ use Rattle.std.proofs.lemmas.List.{get_or_push, length_push}
 use Rattle.std.proofs.lemmas.Option.{slice_get-get_or}
 use Rattle.ob_history.specs.declared.receipt.Receipt.{Receipt}
 use Rattle.ob_pool.specs.Inside.{counts_in, plus}
-use Rattle.ob_pool.proofs.Histories.CountedRecords.{counts_in_both}
-use Rattle.ob_pool.proofs.Histories.TrueCounts.{true_more}
+use Rattle.ob_pool.proofs.Counted.{counts_in_both, true_more}
 use Rattle.ob_pool.proofs.threads.job.count_last.Goals as goal
 
 -- what is found at the end of a list with one behind others

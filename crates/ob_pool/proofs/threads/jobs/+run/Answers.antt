@@ -3,9 +3,9 @@ use Rattle.std.specs.Prelude.{vec_len}
 use Rattle.std.proofs.lemmas.Result.{IfOk-weaker}
 use Rattle.ob_lanes.specs.Run.{WordsValue}
 use Rattle.ob_pool.specs.Threads.{IsNumbered, IsRoomy, room_for}
-use Rattle.ob_pool.proofs.Histories.TrueCounts.{both_counted}
-use Rattle.ob_pool.proofs.Jobs.Halves.{back_some, both_handed_done, front_some, half_within, parts_alike, parts_done}
-use Rattle.ob_pool.proofs.Jobs.Halves.{rooms_of_parts, rooms_within, splits}
+use Rattle.ob_pool.proofs.Counted.{both_counted}
+use Rattle.ob_pool.proofs.Jobs.{back_some, both_handed_done, front_some, half_within, parts_alike, parts_done}
+use Rattle.ob_pool.proofs.Jobs.{rooms_of_parts, rooms_within, splits}
 use Rattle.ob_pool.proofs.threads.jobs.+run.Goals as goal
 
 pub run_all-room_for-requires : goal.run_all-room_for-requires

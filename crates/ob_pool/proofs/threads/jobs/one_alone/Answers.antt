@@ -2,8 +2,8 @@ use Rattle.std.proofs.Common.{◌≡◌, ◌∙◌}
 use Rattle.std.proofs.lemmas.Result.{IfOk-at_ok}
 use Rattle.ob_pool.specs.Inside.{AreTrueIfFit, counts_in}
 use Rattle.ob_pool.specs.Threads.{IsNumbered, IsRoomy, asked, done_by}
-use Rattle.ob_pool.proofs.Histories.TrueCounts.{one_counted}
-use Rattle.ob_pool.proofs.Jobs.Alone.{last_holds, last_room, one_done}
+use Rattle.ob_pool.proofs.Counted.{one_counted}
+use Rattle.ob_pool.proofs.Jobs.{last_holds, last_room, one_done}
 use Rattle.ob_pool.proofs.threads.jobs.one_alone.Goals as goal
 
 pub run-lane-requires-clause-roomy : goal.run-lane-requires-clause-roomy

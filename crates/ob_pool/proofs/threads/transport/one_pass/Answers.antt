@@ -5,7 +5,7 @@ use Rattle.ob_history.specs.History.{IsLegal, receipt_of}
 use Rattle.ob_history.specs.declared.seen.Seen.{Seen}
 use Rattle.ob_shared.specs.Calls.{ShareValue}
 use Rattle.ob_pool.specs.Threads.{HasTakenOf}
-use Rattle.ob_pool.proofs.Passes.Taking.{failings_since, if_kept, kept_of_pass, pass_taken}
+use Rattle.ob_pool.proofs.Taking.{failings_since, if_kept, kept_of_pass, pass_taken}
 use Rattle.ob_pool.proofs.threads.transport.one_pass.Goals as goal
 
 -- the receipts that are kept are those before, and those of what the pass recorded

@@ -2,7 +2,7 @@ use Rattle.std.proofs.Common.{true, ap, arith}
 use Rattle.std.specs.Prelude.{Err}
 use Rattle.ob_transport.specs.Pass.{failures_in}
 use Rattle.ob_transport.specs.declared.fault.Pass.{Pass}
-use Rattle.ob_pool.proofs.Passes.Passing.{failed_once, failing_alike, passed, passes_alone, records_alone}
+use Rattle.ob_pool.proofs.Passing.{failed_once, failing_alike, passed, passes_alone, records_alone}
 use Rattle.ob_pool.proofs.threads.transport.pass_or_fail.Goals as goal
 
 pub returns-in-Ok-Idle-clause-failings : goal.returns-in-Ok-Idle-clause-failings

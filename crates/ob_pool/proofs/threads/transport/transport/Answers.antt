@@ -2,7 +2,7 @@ use Rattle.std.proofs.Common.{List, sym, subst}
 use Rattle.std.proofs.lemmas.Result.{IfOk-at_ok}
 use Rattle.ob_history.specs.declared.receipt.Receipt.{Receipt}
 use Rattle.ob_pool.specs.Threads.{HasTransported}
-use Rattle.ob_pool.proofs.Passes.Taking.{handed_of, nothing_transported, one_more_pass}
+use Rattle.ob_pool.proofs.Taking.{handed_of, nothing_transported, one_more_pass}
 use Rattle.ob_pool.proofs.threads.transport.transport.Goals as goal
 use Rattle.ob_pool.proofs.threads.transport.transport.Goals.{else-passes-test, then-passes-test+in-Ok+then-eq+then-last}
 

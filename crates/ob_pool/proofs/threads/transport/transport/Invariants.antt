@@ -1,5 +1,5 @@
 use Rattle.ob_pool.specs.Threads.{HasTransported}
-use Rattle.ob_pool.proofs.Passes.Taking.{handed_of}
+use Rattle.ob_pool.proofs.Taking.{handed_of}
 use Rattle.ob_pool.proofs.threads.transport.transport.Given as goal
 
 abbrev pub invariant-passes : goal.invariant-passes

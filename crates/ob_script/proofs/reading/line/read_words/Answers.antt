@@ -1,8 +1,8 @@
 use Rattle.std.proofs.Common.{ap, ◌∙◌}
 use Rattle.std.specs.Prelude.{ok_or}
 use Rattle.ob_script.specs.declared.reading.fault.LineFault.TheVariants.{Misplaced}
-use Rattle.ob_script.proofs.Lemmas.Reading.Ranges.{held-within}
-use Rattle.ob_script.proofs.Lemmas.Reading.Line.{asked_by-Ok, asked_by-Err}
+use Rattle.ob_script.proofs.Numbers.{held-within}
+use Rattle.ob_script.proofs.Lines.{asked_by-Ok, asked_by-Err}
 use Rattle.ob_script.proofs.reading.line.read_words.Goals as goal
 
 pub line-requires-after_bounds : goal.line-requires-after_bounds

@@ -1,6 +1,6 @@
 use Rattle.std.proofs.Common.{◌≡◌, ◌+◌, [], take, drop, length, arith}
 use Rattle.std.proofs.lemmas.List.{take_all, drop_all}
-use Rattle.ob_script.proofs.Lemmas.Reading.Lines.{lines_of-first}
+use Rattle.ob_script.proofs.Lines.{lines_of-first}
 use Rattle.ob_script.proofs.reading.lines.first_line.Goals as goal
 
 pub returns-then-end-script-clause-lines : goal.returns-then-end-script-clause-lines

@@ -1,6 +1,6 @@
 use Rattle.std.proofs.Common.{◌<◌, arith, length, add-zero}
 use Rattle.std.proofs.lemmas.List.{get_or-drop}
-use Rattle.ob_script.proofs.Lemmas.Reading.Lines.{words_of-first, space_after}
+use Rattle.ob_script.proofs.Lines.{words_of-first, space_after}
 use Rattle.ob_script.proofs.reading.lines.first_word.Goals as goal
 
 pub returns-clause-words : goal.returns-clause-words

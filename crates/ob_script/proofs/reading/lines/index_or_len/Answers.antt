@@ -1,5 +1,5 @@
 use Rattle.std.proofs.Common.{sym}
-use Rattle.ob_script.proofs.Lemmas.Reading.Lines.{position-None}
+use Rattle.ob_script.proofs.Lines.{position-None}
 use Rattle.ob_script.proofs.reading.lines.index_or_len.Goals as goal
 
 pub returns-in-None-clause-place : goal.returns-in-None-clause-place

@@ -1,8 +1,8 @@
 use Rattle.std.proofs.Common.{◌≡◌, ◌∙◌, ◌-◌, ◌<◌, [], ◌∷◌, Ok, ap, arith, drop, drop-cons, get_or, length, length-drop, sym, take, take_all}
 use Rattle.std.proofs.lemmas.List.{drop_all}
 use Rattle.ob_script.specs.Reading.{words_after, all_numbers_in, before_numbers}
-use Rattle.ob_script.proofs.Lemmas.Reading.Lines.{words_after-space}
-use Rattle.ob_script.proofs.Lemmas.Reading.Numbers.{all_numbers_in-one}
+use Rattle.ob_script.proofs.Lines.{words_after-space}
+use Rattle.ob_script.proofs.Numbers.{all_numbers_in-one}
 use Rattle.ob_script.proofs.reading.numbers.one_number.Goals as goal
 
 pub returns-clause-value : goal.returns-clause-value

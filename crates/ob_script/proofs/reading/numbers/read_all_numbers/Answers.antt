@@ -1,7 +1,6 @@
 use Rattle.std.proofs.Common.{◌≡◌, ◌<◌, refl, arith, length}
 use Rattle.ob_script.specs.Reading.{words_after}
-use Rattle.ob_script.proofs.Lemmas.Reading.Lines.{length-words_after}
-use Rattle.ob_script.proofs.Lemmas.Reading.Line.{all_numbers_in-few, all_numbers_in-many, all_numbers_in-exact}
+use Rattle.ob_script.proofs.Lines.{length-words_after, all_numbers_in-few, all_numbers_in-many, all_numbers_in-exact}
 use Rattle.ob_script.proofs.reading.numbers.read_all_numbers.Goals as goal
 
 pub returns-then-count-ranges : goal.returns-then-count-ranges

@@ -2,8 +2,8 @@ use Rattle.std.proofs.Common.{◌≡◌, ◌+◌, ◌-◌, ◌<◌, ◌≢◌, �
 use Rattle.std.proofs.Common.{take, take_all, drop, get_or-set_other}
 use Rattle.std.proofs.lemmas.List.{take_more_set}
 use Rattle.ob_script.specs.Reading.{words_after, numbers_in, before_numbers}
-use Rattle.ob_script.proofs.Lemmas.Reading.Lines.{words_after-space, bytes_of_words}
-use Rattle.ob_script.proofs.Lemmas.Reading.Numbers.{behind, behind-Ok, numbers_in-drop}
+use Rattle.ob_script.proofs.Lines.{words_after-space, bytes_of_words}
+use Rattle.ob_script.proofs.Numbers.{behind, behind-Ok, numbers_in-drop}
 use Rattle.ob_script.proofs.reading.numbers.read_numbers.Goals as goal
 
 pub loop-place-preserved : goal.loop-place-preserved

@@ -1,6 +1,6 @@
 use Rattle.std.proofs.Common.{◌≡◌, ℕ, ◌+◌, ◌<◌, ◌≤◌, length, take, drop, get_or}
 use Rattle.ob_script.specs.Reading.{words_after, numbers_in}
-use Rattle.ob_script.proofs.Lemmas.Reading.Numbers.{behind}
+use Rattle.ob_script.proofs.Numbers.{behind}
 use Rattle.ob_script.proofs.reading.numbers.read_numbers.Given as goal
 
 abbrev pub invariant-loop-place : goal.invariant-loop-place

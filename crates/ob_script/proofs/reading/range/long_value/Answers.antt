@@ -1,7 +1,7 @@
 use Rattle.std.proofs.Common.{◌≡◌, ◌^◌, ◌+◌, ◌*◌, ◌-◌, ◌<◌, ◌≤◌, arith, get_or, take, refl, ◌∙◌, ap, Some, take_all}
 use Rattle.std.specs.Str.Parse.{digits_value}
 use Rattle.std.proofs.lemmas.Bool.{cond_above, cond_below}
-use Rattle.ob_script.proofs.Lemmas.Reading.Numbers.{digit_at, value_more, value_too_great}
+use Rattle.ob_script.proofs.Numbers.{digit_at, value_more, value_too_great}
 use Rattle.ob_script.proofs.reading.range.long_value.Goals as goal
 
 pub with_digit-requires : goal.with_digit-requires

@@ -2,7 +2,7 @@ use Rattle.std.proofs.Common.{◌≡◌, ◌∙◌, ℕ, Bool, List, ◌≤◌, 
 use Rattle.std.specs.List.{list_all}
 use Rattle.std.specs.Char.{is_ascii_digit}
 use Rattle.std.specs.Str.Parse.{digits_value}
-use Rattle.ob_script.proofs.Lemmas.Reading.Numbers.{digits_more}
+use Rattle.ob_script.proofs.Numbers.{digits_more}
 use Rattle.ob_script.proofs.reading.range.short_number.Goals as goal
 
 -- a byte that was found to be a digit, behind those that were read

@@ -1,7 +1,7 @@
 use Rattle.std.proofs.Common.{◌∙◌, ◌++◌, ◌/◌, ◌%◌, ap, append_assoc, string_bytes, sym}
 use Rattle.std.specs.Prelude.{codes}
-use Rattle.ob_script.proofs.Lemmas.Results.{OnOk-follows}
-use Rattle.ob_script.proofs.Lemmas.Tracing.Hex.{eight_hex-byte, eight_hex-bytes, four_more, two_hex}
+use Rattle.ob_script.proofs.Results.{OnOk-follows}
+use Rattle.ob_script.proofs.Digits.{eight_hex-byte, eight_hex-bytes, four_more, two_hex}
 use Rattle.ob_script.proofs.tracing.text.push_eight_hex.Goals as goal
 
 pub returns-then-number-lt256 : goal.returns-then-number-lt256

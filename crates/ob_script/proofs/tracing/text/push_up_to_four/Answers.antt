@@ -1,6 +1,6 @@
 use Rattle.std.proofs.Common.{arith}
-use Rattle.ob_script.proofs.Lemmas.Results.{OnOk-follows}
-use Rattle.ob_script.proofs.Lemmas.Tracing.Decimal.{two_more}
+use Rattle.ob_script.proofs.Results.{OnOk-follows}
+use Rattle.ob_script.proofs.Digits.{two_more}
 use Rattle.ob_script.proofs.tracing.text.push_up_to_four.Goals as goal
 
 pub returns : goal.returns

@@ -1,6 +1,6 @@
 use Rattle.std.proofs.Common.{arith}
 use Rattle.std.proofs.lemmas.Fmt.{decimal_digit}
-use Rattle.ob_script.proofs.Lemmas.Tracing.Decimal.{decimal-two}
+use Rattle.ob_script.proofs.Digits.{decimal-two}
 use Rattle.ob_script.proofs.tracing.text.push_up_to_two.Goals as goal
 
 pub returns-then-number-lt10 : goal.returns-then-number-lt10

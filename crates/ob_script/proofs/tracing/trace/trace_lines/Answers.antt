@@ -2,8 +2,8 @@ use Rattle.std.proofs.Common.{◌≡◌, ◌∙◌, ◌++◌, ap, subst, sym, No
 use Rattle.ob_script.specs.Inside.{HasTraced}
 use Rattle.ob_script.specs.Reading.{script_lines}
 use Rattle.ob_script.specs.Tracing.{Language, Texts, trace_of_first}
-use Rattle.ob_script.proofs.Lemmas.Reading.Cursor.{ends_at_nil, is_placed, read_further}
-use Rattle.ob_script.proofs.Lemmas.Tracing.Trace.{HasTraced-kept, HasTraced-more, trace_of_first-more, traced_whole}
+use Rattle.ob_script.proofs.Places.{ends_at_nil, is_placed, read_further}
+use Rattle.ob_script.proofs.Traced.{HasTraced-kept, HasTraced-more, trace_of_first-more, traced_whole}
 use Rattle.ob_script.proofs.tracing.trace.trace_lines.Goals as goal
 
 pub lines-preserved : goal.lines-preserved

@@ -2,7 +2,7 @@ use Rattle.std.proofs.Common.{◌∙◌, ◌++◌, ap, sym, subst, List, length}
 use Rattle.ob_script.specs.Inside.{HasTraced}
 use Rattle.ob_script.specs.Reading.{script_lines}
 use Rattle.ob_script.specs.Tracing.{Language, Texts, trace_of_first, trace_of_lines}
-use Rattle.ob_script.proofs.Lemmas.Tracing.Trace.{all_lines, trace_of-whole, HasTraced-more}
+use Rattle.ob_script.proofs.Traced.{all_lines, trace_of-whole, HasTraced-more}
 use Rattle.ob_script.proofs.tracing.trace.trace_script.Goals as goal
 
 pub returns-in-Err : goal.returns-in-Err

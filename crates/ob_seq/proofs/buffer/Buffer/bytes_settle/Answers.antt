@@ -1,7 +1,7 @@
 use Rattle.ob_seq.proofs.Words.{◌≡◌, Bool, not, length, take, cond, arith, Option, Some, None, count_by}
 use Rattle.ob_seq.proofs.Words.{Refusal, TooManyBytes, Cut, unless_refused, PendingEntry, Pending}
 use Rattle.ob_seq.proofs.Words.{settled_by, bytes_reply}
-use Rattle.ob_seq.proofs.Inside.EntrySettlements.{count_of_settlements}
+use Rattle.ob_seq.proofs.Inside.LetGo.{count_of_settlements}
 use Rattle.ob_seq.proofs.buffer.Buffer.bytes_settle.Goals as goal
 
 -- a removal of bytes that finds a cut settles as many promises as unvoided entries

@@ -1,6 +1,6 @@
 use Rattle.ob_seq.proofs.Words.{◌≡◌, length, take, refl, sym, ap, ◌∙◌, arith, Failed}
 use Rattle.ob_seq.specs.Unsent.{all_entries}
-use Rattle.ob_seq.proofs.Inside.EntrySettlements.{all_settle, count_of_settlements}
+use Rattle.ob_seq.proofs.Inside.LetGo.{all_settle, count_of_settlements}
 use Rattle.ob_seq.proofs.Inside.Rooms.{line_there}
 use Rattle.ob_seq.proofs.buffer.Buffer.closing_settles.Goals as goal
 

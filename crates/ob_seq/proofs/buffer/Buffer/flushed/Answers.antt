@@ -1,5 +1,5 @@
 use Rattle.ob_seq.proofs.Words.{arith}
-use Rattle.ob_seq.proofs.Inside.Sending.{to_send_is}
+use Rattle.ob_seq.proofs.Inside.Held.{to_send_is}
 use Rattle.ob_seq.proofs.buffer.Buffer.flushed.Goals as goal
 
 pub returns : goal.returns

@@ -1,6 +1,6 @@
 use Rattle.ob_seq.proofs.Words.{[], refl, arith, Settings, StandsFor, whole}
 use Rattle.ob_seq.specs.Unsent.{nothing_unsent}
-use Rattle.ob_seq.proofs.Opening.{leaves_at_start}
+use Rattle.ob_seq.proofs.Inside.Held.{leaves_at_start}
 use Rattle.ob_seq.proofs.buffer.Buffer.new.Goals as goal
 
 -- what is held at the opening stands for no commands

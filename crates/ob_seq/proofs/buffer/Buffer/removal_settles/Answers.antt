@@ -1,7 +1,7 @@
 use Rattle.ob_seq.proofs.Words.{◌≡◌, ◌<◌, length, ap, ◌∙◌, arith, nat_tests, pending_entry, Pending, Outcome, cond}
 use Rattle.ob_seq.specs.Steps.Commands.{removal_step}
 use Rattle.ob_seq.specs.Steps.Step.{is_first_voided, settled_open}
-use Rattle.ob_seq.proofs.Inside.Leaving.{no_entry}
+use Rattle.ob_seq.proofs.Inside.LetGo.{no_entry}
 use Rattle.ob_seq.proofs.Inside.Rooms.{back_first, line_there}
 use Rattle.ob_seq.proofs.buffer.Buffer.removal_settles.Goals as goal
 

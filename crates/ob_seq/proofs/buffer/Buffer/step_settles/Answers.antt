@@ -1,5 +1,5 @@
 use Rattle.ob_seq.proofs.Words.{◌≡◌, false, sym, ap, ◌∙◌, arith, take_all, Failed, failing_step, front_id, Pending}
-use Rattle.ob_seq.proofs.Inside.EntrySettlements.{count_of_settlements}
+use Rattle.ob_seq.proofs.Inside.LetGo.{count_of_settlements}
 use Rattle.ob_seq.proofs.Inside.Rooms.{line_there}
 use Rattle.ob_seq.proofs.Simulating.Simulation.{settled_where_open}
 use Rattle.ob_seq.proofs.buffer.Buffer.step_settles.Goals as goal

@@ -4,7 +4,7 @@ use Rattle.ob_types.specs.Limits.{most_writes}
 use Rattle.ob_seq.specs.Answer.{buffer_limit}
 use Rattle.ob_seq.specs.Kept.{pending_of}
 use Rattle.ob_seq.specs.Steps.Commands.{asked}
-use Rattle.ob_seq.proofs.Inside.Admitted.{few, write_made, write_refused, write_wanting}
+use Rattle.ob_seq.proofs.Inside.Steps.{few, write_made, write_refused, write_wanting}
 use Rattle.ob_seq.proofs.Inside.Rooms.{added_waiting, promises_there}
 use Rattle.ob_seq.proofs.Simulating.Simulated.{obeys, stays}
 use Rattle.ob_seq.proofs.buffer.Buffer.write.Goals as goal

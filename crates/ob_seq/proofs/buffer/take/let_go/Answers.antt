@@ -1,7 +1,6 @@
 use Rattle.ob_seq.proofs.Words.{◌≡◌, ◌<◌, ◌++◌, ◌∷◌, [], length, length-append, get_or, refl, sym, ap, ◌∙◌, arith, ended, pending_entry}
 use Rattle.std.proofs.lemmas.Grind.{common_steps}
-use Rattle.ob_seq.proofs.Inside.EntrySettlements.{count_of_settlements}
-use Rattle.ob_seq.proofs.Inside.Leaving.{first_end, no_entry, one_more, taken_back_at}
+use Rattle.ob_seq.proofs.Inside.LetGo.{count_of_settlements, first_end, no_entry, one_more, taken_back_at}
 use Rattle.ob_seq.proofs.buffer.take.let_go.Goals as goal
 
 pub returns-then-as_slice-count : goal.returns-then-as_slice-count

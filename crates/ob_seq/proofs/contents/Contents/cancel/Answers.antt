@@ -4,7 +4,7 @@ use Rattle.ob_seq.specs.Steps.Commands.{cancel_step}
 use Rattle.ob_seq.specs.Steps.Step.{state_at}
 use Rattle.ob_seq.specs.Steps.Within.{cancelled_reply}
 use Rattle.ob_seq.proofs.Inside.Fields.{entry_count}
-use Rattle.ob_seq.proofs.Inside.Made.{makes_taken, nothing_turned}
+use Rattle.ob_seq.proofs.Inside.Steps.{makes_taken, nothing_turned}
 use Rattle.ob_seq.proofs.Inside.Rooms.{gone_waits_not, promises_there, set_waiting, waits_behind}
 use Rattle.ob_seq.proofs.contents.Contents.cancel.Goals as goal
 

@@ -1,7 +1,7 @@
 use Rattle.ob_seq.proofs.Words.{arith}
 use Rattle.std.proofs.Common.{add-one}
 use Rattle.ob_seq.proofs.Inside.Fields.{left_at_block, left_at_end, left_at_other, line_count, line_from}
-use Rattle.ob_seq.proofs.Inside.Pieces.{cut_is}
+use Rattle.ob_seq.proofs.Inside.Gathered.{cut_is}
 use Rattle.ob_seq.proofs.contents.Contents.find_cut.Goals as goal
 
 pub returns-then-left-rest-clause-value : goal.returns-then-left-rest-clause-value

@@ -1,5 +1,5 @@
 use Rattle.ob_seq.proofs.Words.{◌≡◌, ◌≤◌, ◌-◌, drop, length, blocks_left, pending_entries}
-use Rattle.ob_seq.proofs.Inside.Pieces.{cut_from}
+use Rattle.ob_seq.proofs.Inside.Gathered.{cut_from}
 use Rattle.ob_seq.proofs.contents.Contents.find_cut.Given as goal
 
 abbrev pub invariant-loop-whole : goal.invariant-loop-whole

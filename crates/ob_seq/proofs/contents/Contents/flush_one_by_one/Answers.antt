@@ -1,7 +1,7 @@
 use Rattle.ob_seq.proofs.Words.{◌≡◌, ℕ, ◌-◌, [], List, length, refl, ap, ◌∙◌, arith, length-map, Unsent, whole}
 use Rattle.ob_seq.proofs.Words.{Entry, next_flushed, times, drop}
 use Rattle.std.proofs.lemmas.List.{nil_from_length}
-use Rattle.ob_seq.proofs.Inside.Times.{unflushed_left}
+use Rattle.ob_seq.proofs.Inside.Steps.{unflushed_left}
 use Rattle.ob_seq.proofs.contents.Contents.flush_one_by_one.Goals as goal
 
 -- each turn takes one of the unflushed entries

@@ -1,8 +1,8 @@
 use Rattle.ob_seq.proofs.Words.{◌+◌, [], ◌∷◌, ◌++◌, length, drop, sym, ap, ◌∙◌, arith, blocks_left, pending_entries}
 use Rattle.std.proofs.lemmas.List.{length-set}
-use Rattle.ob_seq.proofs.Inside.Borrowed.{all_filled, filled, filled_count, filled_more, rest_behind}
+use Rattle.ob_seq.proofs.Inside.Gathered.{all_filled, filled, filled_count, filled_more, rest_behind, ended}
+use Rattle.ob_seq.proofs.Inside.Gathered.{goes_within, none_left, passed, pushed}
 use Rattle.ob_seq.proofs.Inside.Fields.{left_at_block, left_at_end, left_at_other}
-use Rattle.ob_seq.proofs.Inside.Gathered.{ended, goes_within, none_left, passed, pushed}
 use Rattle.ob_seq.proofs.contents.Contents.gather_into.Goals.{then-length-gt0+else-not-has_room, else-length-gt0}
 use Rattle.ob_seq.proofs.contents.Contents.gather_into.Goals as goal
 

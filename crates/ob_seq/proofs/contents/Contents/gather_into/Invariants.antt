@@ -1,6 +1,5 @@
 use Rattle.ob_seq.proofs.Words.{◌≡◌, ◌≤◌, ◌++◌, length, drop, blocks_left, pending_entries}
-use Rattle.ob_seq.proofs.Inside.Borrowed.{filled}
-use Rattle.ob_seq.proofs.Inside.Gathered.{more_blocks}
+use Rattle.ob_seq.proofs.Inside.Gathered.{filled, more_blocks}
 use Rattle.ob_seq.proofs.contents.Contents.gather_into.Given as goal
 
 abbrev pub invariant-loop-place : goal.invariant-loop-place

@@ -6,7 +6,7 @@ use Rattle.ob_seq.specs.Steps.Step.{is_first_voided}
 use Rattle.ob_seq.specs.Steps.Commands.{removal_reply}
 use Rattle.ob_seq.specs.Steps.Within.{front_reply}
 use Rattle.ob_seq.proofs.Inside.Fields.{line_count}
-use Rattle.ob_seq.proofs.Inside.Made.{makes_taken}
+use Rattle.ob_seq.proofs.Inside.Steps.{makes_taken}
 use Rattle.ob_seq.proofs.Inside.Rooms.{front_id_there, taken_waiting}
 use Rattle.ob_seq.proofs.contents.Contents.remove.Goals as goal
 

@@ -1,6 +1,6 @@
 use Rattle.ob_seq.proofs.Words.{◌≡◌, ◌<◌, [], true, false, length, get_or, refl, sym, ap, ◌∙◌, append-nil, arith, PendingEntry, Block}
 use Rattle.ob_seq.specs.Unsent.{all_entries}
-use Rattle.ob_seq.proofs.Inside.EntrySettlements.{all_wait, count_of_settlements, entries_settle, settled_more, settled_room}
+use Rattle.ob_seq.proofs.Inside.LetGo.{all_wait, count_of_settlements, entries_settle, settled_more, settled_room}
 use Rattle.ob_seq.proofs.contents.Contents.settlements.Goals.{then-not-is_taken_back+in_ok-push, else-not-is_taken_back}
 use Rattle.ob_seq.proofs.contents.Contents.settlements.Goals as goal
 

@@ -1,7 +1,7 @@
 use Rattle.ob_seq.proofs.Words.{[], ◌++◌, length, map, take, ap, ◌∙◌, arith, true, ended, Success, Pending, whole}
 use Rattle.ob_seq.specs.Steps.Commands.{front_skipped}
 use Rattle.ob_seq.proofs.Inside.Rooms.{same_waiting, skipped_promises}
-use Rattle.ob_seq.proofs.Inside.Times.{line_of_times}
+use Rattle.ob_seq.proofs.Inside.Steps.{line_of_times}
 use Rattle.ob_seq.proofs.contents.Contents.take_cut.Goals as goal
 
 pub skip_in_front-requires : goal.skip_in_front-requires

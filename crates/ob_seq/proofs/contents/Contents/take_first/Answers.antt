@@ -2,9 +2,9 @@ use Rattle.ob_seq.proofs.Words.{[], ◌≡◌, ◌++◌, List, length, ap, ◌�
 use Rattle.ob_seq.proofs.Words.{Success, Outcome, Pending, ended, front_taken, length-map, pending_entries, pending_entry, whole}
 use Rattle.std.proofs.Common.{add-one}
 use Rattle.std.proofs.lemmas.List.{length-drop, length-take-le}
-use Rattle.ob_seq.proofs.Inside.Leaving.{front_ends, one_more}
+use Rattle.ob_seq.proofs.Inside.LetGo.{front_ends, one_more}
 use Rattle.ob_seq.proofs.Inside.Rooms.{fewer_waiting}
-use Rattle.ob_seq.proofs.Inside.Times.{line_of_times}
+use Rattle.ob_seq.proofs.Inside.Steps.{line_of_times}
 use Rattle.ob_seq.proofs.contents.Contents.take_first.Goals as goal
 
 pub take_front-requires : goal.take_front-requires

@@ -1,7 +1,7 @@
 use Rattle.ob_seq.proofs.Words.{◌≡◌, List, ◌∷◌, sym, ap, ◌∙◌, arith, Settings, Entry}
 use Rattle.ob_seq.proofs.Words.{take, drop, whole, front_taken, Unsent, counted}
 use Rattle.ob_seq.proofs.Inside.Fields.{line_count}
-use Rattle.ob_seq.proofs.Inside.Leaving.{ends_as}
+use Rattle.ob_seq.proofs.Inside.LetGo.{ends_as}
 use Rattle.ob_seq.proofs.Inside.States.{kept_taken, unsent_from}
 use Rattle.ob_seq.proofs.contents.Contents.take_front.Goals as goal
 

@@ -11,7 +11,7 @@ use Rattle.ob_history.specs.History.{History, settlements_in}
 use Rattle.ob_history.specs.declared.receipt.Receipt.{Receipt}
 use Rattle.ob_history.specs.declared.record.Record.{Record}
 use Rattle.ob_shared.specs.Calls.{IsUnknown, IsUnsettled}
-use Rattle.ob_shared.proofs.Promises.{copied_freely}
+use Rattle.ob_shared.proofs.Finishing.{copied_freely}
 use Rattle.ob_shared.proofs.locked.Locked.told.Goals as goal
 
 -- of a promise whose state is no settlement nothing is reported, and it is known and not settled

@@ -4,7 +4,7 @@ use Rattle.ob_types.specs.declared.refusal.Refusal.{Refusal}
 use Rattle.ob_types.specs.declared.refusal.Refusal.TheVariants.{NoMemory}
 use Rattle.ob_history.specs.History.{next_record, IsBeginning, History}
 use Rattle.ob_history.specs.declared.record.Record.{Record}
-use Rattle.ob_history.proofs.Beginnings.{begins_further}
+use Rattle.ob_history.proofs.Lists.{begins_further}
 use Rattle.ob_history.proofs.Calls.{called_begins}
 use Rattle.ob_shared.specs.Calls.{with_record_of, Handed, ShareValue, sight_of}
 use Rattle.ob_shared.proofs.Calling.{keeps_nothing, keeps_record, now_with}

@@ -1,5 +1,5 @@
 use Rattle.std.proofs.Common.{◌≡◌, length, take}
-use Rattle.ob_seq.proofs.Inside.Borrowed.{filled}
+use Rattle.ob_seq.proofs.Inside.Gathered.{filled}
 use Rattle.ob_shared_connection.proofs.transport.sending.lay.Given as goal
 
 -- the first blocks are laid

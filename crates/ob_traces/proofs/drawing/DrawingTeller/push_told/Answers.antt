@@ -3,7 +3,7 @@ use Rattle.std.proofs.lemmas.List.Sums.{count_by-le-length, length-filter}
 use Rattle.std.specs.List.{flat_map}
 use Rattle.ob_traces.specs.Draw.{picture_pieces, piece_text}
 use Rattle.ob_traces.specs.Traces.{shows_bytes}
-use Rattle.ob_script.proofs.Lemmas.Results.{OnOk-follows}
+use Rattle.ob_script.proofs.Results.{OnOk-follows}
 use Rattle.ob_traces.proofs.drawing.DrawingTeller.push_told.Goals as goal
 
 pub make_picture-requires : goal.make_picture-requires

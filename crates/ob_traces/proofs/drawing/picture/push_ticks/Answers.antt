@@ -1,7 +1,7 @@
 use Rattle.std.proofs.Common.{◌≡◌, ◌++◌, ◌∙◌, ap, append_assoc}
 use Rattle.std.specs.List.{flat_map}
 use Rattle.ob_traces.specs.Draw.{greater, below_pieces, beside_pieces, ticks_of}
-use Rattle.ob_script.proofs.Lemmas.Results.{OnOk-follows}
+use Rattle.ob_script.proofs.Results.{OnOk-follows}
 use Rattle.ob_traces.proofs.drawing.picture.push_ticks.Goals as goal
 
 pub returns : goal.returns

@@ -2,7 +2,7 @@ use Rattle.std.proofs.Common.{◌≡◌, ◌≤◌, ◌*◌, ◌∙◌, ap, refl
 use Rattle.std.specs.Prelude.{nat_lt}
 use Rattle.std.specs.Option.{unwrap_or}
 use Rattle.ob_traces.specs.Draw.{round_numbers, step_of}
-use Rattle.ob_traces.proofs.Lemmas.Draw.{first_within}
+use Rattle.ob_traces.proofs.Axis.{first_within}
 use Rattle.ob_traces.proofs.drawing.tick.step_of.Goals as goal
 
 pub returns-clause-small : goal.returns-clause-small

@@ -1,6 +1,6 @@
 use Rattle.std.proofs.Common.{refl}
 use Rattle.ob_traces.specs.Summary.{summary_text}
-use Rattle.ob_script.proofs.Lemmas.Results.{OnOk-follows}
+use Rattle.ob_script.proofs.Results.{OnOk-follows}
 use Rattle.ob_traces.proofs.summing.SummarizerTeller.push_told.Goals as goal
 
 pub returns : goal.returns

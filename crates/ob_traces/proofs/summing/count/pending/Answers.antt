@@ -1,5 +1,5 @@
 use Rattle.std.proofs.Common.{◌∙◌, sym}
-use Rattle.ob_traces.proofs.Lemmas.Summary.Lines.{pending_behind-bare, pending_behind-shown}
+use Rattle.ob_traces.proofs.SummaryLines.{pending_behind-bare, pending_behind-shown}
 use Rattle.ob_traces.proofs.summing.count.pending.Goals as goal
 use Rattle.ob_traces.proofs.summing.count.pending.Goals.{then-shows_bytes, else-shows_bytes}
 

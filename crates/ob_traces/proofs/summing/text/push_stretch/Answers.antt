@@ -2,7 +2,7 @@ use Rattle.std.proofs.Common.{◌∙◌, ◌++◌, ap, append_assoc, string_byte
 use Rattle.std.specs.Fmt.{decimal}
 use Rattle.std.specs.Prelude.{codes}
 use Rattle.ob_traces.specs.Summary.{from_text}
-use Rattle.ob_script.proofs.Lemmas.Results.{OnOk-follows}
+use Rattle.ob_script.proofs.Results.{OnOk-follows}
 use Rattle.ob_traces.proofs.summing.text.push_stretch.Goals as goal
 
 pub returns : goal.returns

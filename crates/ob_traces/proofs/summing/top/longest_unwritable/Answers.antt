@@ -1,7 +1,7 @@
 use Rattle.std.proofs.Common.{◌≡◌, ◌∙◌, ◌+◌, ap, arith, cond, not, sym, take}
 use Rattle.std.specs.List.{suffix_len}
 use Rattle.ob_traces.specs.Summary.{is_unwritable, unwritable_at}
-use Rattle.ob_traces.proofs.Lemmas.Summary.Lines.{unwritable_at-more}
+use Rattle.ob_traces.proofs.SummaryLines.{unwritable_at-more}
 use Rattle.ob_traces.proofs.summing.top.longest_unwritable.Goals as goal
 use Rattle.ob_traces.proofs.summing.top.longest_unwritable.Goals.{then-line, else-line}
 

@@ -1,6 +1,6 @@
 use Rattle.std.proofs.Common.{◌≡◌, ◌++◌, ◌∙◌, [], ◌∷◌, ap, refl, rules, sym}
 use Rattle.ob_traces.specs.Traces.{trace_grammar}
-use Rattle.ob_script.proofs.Lemmas.Reading.Cursor.{ends_at_nil, read_further}
+use Rattle.ob_script.proofs.Places.{ends_at_nil, read_further}
 use Rattle.ob_traces.proofs.traces.trace.read_trace.Goals as goal
 
 pub loop-cursor-preserved : goal.loop-cursor-preserved

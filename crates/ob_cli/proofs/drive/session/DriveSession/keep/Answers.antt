@@ -1,6 +1,6 @@
 use Rattle.std.proofs.Common.{◌∙◌, Some, append-nil, sym}
 use Rattle.ob_cli.specs.declared.drive.line.DriveLine.TheVariants as line
-use Rattle.ob_cli.proofs.Lemmas.Drive.Script.{kept-more, first_else-None, first_else-new}
+use Rattle.ob_cli.proofs.DriveLines.{kept-more, first_else-None, first_else-new}
 use Rattle.ob_cli.proofs.drive.session.DriveSession.keep.Goals as goal
 
 pub returns-in_ok-push-in-Writer-clause-done : goal.returns-in_ok-push-in-Writer-clause-done

@@ -1,7 +1,7 @@
 use Rattle.std.proofs.Common.{◌≡◌, ◌∙◌, ◌+◌, ap, arith, subst}
 use Rattle.std.specs.Prelude.{IfOk}
 use Rattle.std.specs.List.{slice_range}
-use Rattle.ob_cli.proofs.Lemmas.Run.Blocks.{part-block}
+use Rattle.ob_cli.proofs.RunLines.{part-block}
 use Rattle.ob_cli.proofs.run.blocks.Blocks.block.Goals as goal
 
 pub returns : goal.returns

@@ -2,7 +2,7 @@ use Rattle.std.proofs.Common.{◌<◌, List, ap, length, subst, sym}
 use Rattle.ob_history.specs.History.{is_full, next_record}
 use Rattle.ob_history.specs.declared.record.Record.{Record}
 use Rattle.ob_history.proofs.Calls.{record_at_place}
-use Rattle.ob_cli.proofs.Lemmas.Run.Session.{never_full}
+use Rattle.ob_cli.proofs.RunLines.{never_full}
 use Rattle.ob_cli.proofs.run.session.RunSession.call.Goals as goal
 
 pub bounds-records-place : goal.bounds-records-place

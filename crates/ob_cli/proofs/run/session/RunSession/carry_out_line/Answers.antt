@@ -1,8 +1,8 @@
 use Rattle.std.proofs.Common.{◌∙◌, ◌++◌, ap, string_bytes}
 use Rattle.ob_history.specs.History.{History}
 use Rattle.ob_cli.specs.Run.{call_text}
-use Rattle.ob_script.proofs.Lemmas.Results.{OnOk-follows}
-use Rattle.ob_cli.proofs.Lemmas.Run.Session.{block-told}
+use Rattle.ob_script.proofs.Results.{OnOk-follows}
+use Rattle.ob_cli.proofs.RunLines.{block-told}
 use Rattle.ob_cli.proofs.run.session.RunSession.carry_out_line.Goals as goal
 
 pub returns-in_ok-command-in-Block-clause-text : goal.returns-in_ok-command-in-Block-clause-text

@@ -3,8 +3,8 @@ use Rattle.ob_history.specs.History.{history_after, next_record, History, seen_n
 use Rattle.ob_history.specs.declared.record.Record.{Record}
 use Rattle.ob_history.proofs.Calls.{record_at_place}
 use Rattle.ob_cli.specs.Run.{told_after}
-use Rattle.ob_script.proofs.Lemmas.Results.{OnOk-follows}
-use Rattle.ob_cli.proofs.Lemmas.Run.Session.{call-told, has_room, told-last}
+use Rattle.ob_script.proofs.Results.{OnOk-follows}
+use Rattle.ob_cli.proofs.RunLines.{call-told, has_room, told-last}
 use Rattle.ob_cli.proofs.run.session.RunSession.trace_command.Goals as goal
 
 pub bounds-records-place : goal.bounds-records-place

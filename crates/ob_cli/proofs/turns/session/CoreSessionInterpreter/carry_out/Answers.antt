@@ -1,4 +1,4 @@
-use Rattle.ob_cli.proofs.Lemmas.Turns.Script.{lane_done, turn_done}
+use Rattle.ob_cli.proofs.CoreLines.{lane_done, turn_done}
 use Rattle.ob_cli.proofs.turns.session.CoreSessionInterpreter.carry_out.Goals as goal
 
 pub returns-in-Lane-clause-done : goal.returns-in-Lane-clause-done

@@ -2,8 +2,8 @@ use Rattle.std.proofs.Common.{◌∙◌, ◌++◌, ap, sym, string_bytes}
 use Rattle.std.specs.Prelude.{option_map}
 use Rattle.ob_core.specs.World.{WorldState}
 use Rattle.ob_cli.specs.Turns.{end_text}
-use Rattle.ob_cli.proofs.Lemmas.Turns.Script.{last_text-once}
-use Rattle.ob_script.proofs.Lemmas.Results.{OnOk-follows}
+use Rattle.ob_cli.proofs.CoreLines.{last_text-once}
+use Rattle.ob_script.proofs.Results.{OnOk-follows}
 use Rattle.ob_cli.proofs.turns.session.CoreSessionInterpreter.push_last.Goals as goal
 
 pub returns-in-Some : goal.returns-in-Some

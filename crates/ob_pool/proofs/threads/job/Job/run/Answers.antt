@@ -2,7 +2,7 @@ use Rattle.std.proofs.Common.{◌≡◌, ◌∷◌, drop, length, sym, ap, ◌�
 use Rattle.std.specs.Prelude.{vec_capacity, vec_len}
 use Rattle.std.proofs.lemmas.Result.{IfOk-at_ok}
 use Rattle.ob_shared.specs.Calls.{Maker}
-use Rattle.ob_pool.proofs.Jobs.Steps.{commands_rest, made_more, numbered_still, place_next, places_rest, room_rest}
+use Rattle.ob_pool.proofs.Jobs.{commands_rest, made_more, numbered_still, place_next, places_rest, room_rest}
 use Rattle.ob_pool.proofs.threads.job.Job.run.Goals as goal
 
 pub one_step-same-requires-clause-numbered : goal.one_step-same-requires-clause-numbered

@@ -2,7 +2,7 @@ use Rattle.std.proofs.Common.{◌≡◌, ◌+◌, ◌∙◌, ap, drop, subst, ru
 use Rattle.std.proofs.lemmas.List.{drop-drop}
 use Rattle.ob_script.specs.Inside.{IsFollowed}
 use Rattle.ob_script.specs.declared.script_fault.ScriptFault.TheVariants.{Line}
-use Rattle.ob_script.proofs.Lemmas.Reading.Cursor.{ends_misplaced, ends_unread, followed}
+use Rattle.ob_script.proofs.Places.{ends_misplaced, ends_unread, followed}
 use Rattle.ob_script.proofs.reading.cursor.Cursor.read.Goals as goal
 
 pub returns-in-Ok-clause-misplaced : goal.returns-in-Ok-clause-misplaced

@@ -1,2 +1,0 @@
--- What the program leaves.
-pub mod Entry

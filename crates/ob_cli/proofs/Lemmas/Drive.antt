@@ -1,5 +1,0 @@
--- Drive scripts.
-pub mod Ending
-pub mod More
-mod Rows
-pub mod Script

@@ -1,4 +1,0 @@
--- Scripts of `run`.
-pub mod Blocks
-mod Rows
-pub mod Session

@@ -1,3 +1,0 @@
--- Core scripts.
-mod Rows
-pub mod Script

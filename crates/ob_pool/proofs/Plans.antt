@@ -1,6 +1,0 @@
--- Plans, step by step.
-pub mod BadSteps
-pub mod Faultless
-pub mod PlannedSteps
-pub mod Rooms
-pub mod Runs

@@ -1,4 +1,0 @@
--- Traces.
-pub mod Decimal
-pub mod Hex
-pub mod Trace

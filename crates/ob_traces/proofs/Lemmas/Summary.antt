@@ -1,2 +1,0 @@
--- What a trace comes to.
-pub mod Lines
