@@ -1,9 +1,8 @@
 -- What one command does to a buffer that is not closed, and the words of what a buffer holds that several steps speak.
 -- Of public clauses those of `Contents` cite it.
-use Rattle.std.specs.Prelude.{◌≡◌, ◌<◌, ℕ, length, if◌then◌else◌, Option, Some, None, Result, is_ok, IsErrOf, ◌+◌, ◌-◌}
+use Rattle.std.specs.Prelude.{◌≡◌, ℕ, length, if◌then◌else◌, Option, Some, None, Result, is_ok, IsErrOf, ◌+◌, ◌-◌}
 use Rattle.std.specs.Prelude.{Bool, false, List, [], ◌∷◌, sum_by, slice_set, zero, suc, slice_index_or, ◌*◌, ◌/◌, ◌&&◌}
 use Rattle.std.specs.Prelude.{true, nat_lt}
-use Rattle.ob_types.specs.Limits.{inline_settlements}
 use Rattle.ob_types.specs.declared.refusal.Refusal.TheVariants.{Closed, NoMemory}
 use Rattle.ob_types.specs.declared.refusal.Refusal.{Refusal}
 use Rattle.ob_types.specs.declared.reply.Reply.{Reply}
@@ -40,10 +39,6 @@ pub record Makes (old : Pending) (step : Step) (result : Result Reply Refusal) (
   pub answer : ¬ IsErrOf result NoMemory → result ≡ answer_by old step
   pub after : new ≡ held_by old step result
   pub no_memory_last : IsErrOf result NoMemory → first_of_step old step ≡ None
-
--- it is out of memory only if the step settles more promises than fit without an allocation
-abbrev pub SparesFew : Step → Result Reply Refusal → Type 0
-SparesFew step result = IsErrOf result NoMemory → inline_settlements < length step.reply.settled
 
 -- how many promises a step of a buffer that is not closed settles: those of its reply, and none if it is refused
 abbrev pub settled_open : Step → ℕ
