@@ -60,6 +60,8 @@ impl Drop for Handle {
 pub(crate) struct Budgeted {
     inner: sys::Budgeted,
     lent: Lent,
+    /// How many messages are gone: the promise of the one in front, since promises count the writes.
+    gone: u64,
 }
 
 // SAFETY: as of a `Handle`.
@@ -81,7 +83,7 @@ impl Budgeted {
     }
 
     pub(crate) fn open(budget: &mut Handle, marks: Marks, estimate: Estimate) -> Result<Budgeted, Refusal> {
-        let mut opened = Budgeted { inner: sys::Budgeted { at: null_mut() }, lent: Lent::default() };
+        let mut opened = Budgeted { inner: sys::Budgeted { at: null_mut() }, lent: Lent::default(), gone: 0 };
         let (Marks { low, high }, Estimate { overhead, unknown }) = (marks, estimate);
         let (at, budget) = (&mut opened.inner, &mut budget.inner);
         // SAFETY: both handles are their values' own, and this one owns nothing yet.

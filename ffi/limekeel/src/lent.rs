@@ -1,7 +1,8 @@
 //! Memory that messages are lent, kept until the archive told that they are gone.
 //!
 //! `Handle` writes with it and tells it what is gone; the `unsafe` here and there stands on this: what is kept under a promise is
-//! neither moved nor dropped, nor are its bytes changed, before [`Lent::let_go_below`] is called with an end above that promise.
+//! neither moved nor dropped, nor are its bytes changed, before [`Lent::let_go_below`] or [`Lent::let_go_if_below`] is called with
+//! an end above that promise.
 
 use crate::replies::Refusal;
 use std::arch::x86_64::{_MM_HINT_T0, _mm_prefetch};
@@ -209,6 +210,15 @@ impl Lent {
         }
         if self.last < end {
             drop(take(&mut self.chunk));
+        }
+    }
+
+    /// The same, if there is any: small enough to be a piece of its caller.
+    #[inline]
+    pub(crate) fn let_go_if_below(&mut self, end: u64) {
+        let has_below = self.last < end || self.owners.front().is_some_and(|owner| owner.0 < end);
+        if has_below && !self.is_empty() {
+            self.let_go_below(end);
         }
     }
 

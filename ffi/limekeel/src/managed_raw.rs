@@ -16,6 +16,8 @@ use crate::views::Front;
 pub(crate) struct Managed {
     inner: sys::Managed,
     lent: Lent,
+    /// How many messages are gone: the promise of the one in front, since promises count the writes.
+    gone: u64,
 }
 
 // SAFETY: the archive proves `Send` of what is behind the pointer, and nothing of it is tied to a thread. The pointer keeps
@@ -38,7 +40,7 @@ impl Managed {
     }
 
     pub(crate) fn open(marks: Marks, estimate: Estimate, limits: Limits, now: u64) -> Result<Managed, Refusal> {
-        let mut opened = Managed { inner: sys::Managed { at: null_mut() }, lent: Lent::default() };
+        let mut opened = Managed { inner: sys::Managed { at: null_mut() }, lent: Lent::default(), gone: 0 };
         let (Marks { low, high }, Estimate { overhead, unknown }) = (marks, estimate);
         let Limits { most_pending, window, least_bytes } = limits;
         let at = &mut opened.inner;

@@ -32,6 +32,8 @@ use crate::views::Front;
 pub(crate) struct Handle {
     inner: sys::Connection,
     lent: Lent,
+    /// How many messages are gone: the promise of the one in front, since promises count the writes.
+    gone: u64,
 }
 
 // SAFETY: the archive proves `Send` of what is behind the pointer, and nothing of it is tied to a thread. The pointer keeps
@@ -61,9 +63,11 @@ macro_rules! removals {
             pub(crate) fn $name(&mut self $(, $argument: $kind)*) -> $answer {
                 // SAFETY: as of a command.
                 let told = unsafe { sys::$export(&mut self.inner $(, $argument)*) };
+                // if it was refused this is 0
+                let end = $taken(&told).to;
+                self.gone = self.gone.max(end);
                 if !self.lent.is_empty() {
-                    // if it was refused this is 0
-                    self.lent.let_go_below($taken(&told).to);
+                    self.lent.let_go_below(end);
                 }
                 told
             }
@@ -79,12 +83,12 @@ macro_rules! front_removals {
         $(
             #[inline]
             pub(crate) fn $name(&mut self $(, $argument: $kind)*) -> $answer {
-                // a removal does not report the promise of a cancelled message
-                let front = if self.lent.is_empty() { None } else { Some(self.front().id) };
                 // SAFETY: as of a command.
                 let told = unsafe { sys::$export(&mut self.inner $(, $argument)*) };
-                if let Some(id) = front.filter(|_| $any(&told)) {
-                    self.lent.let_go_below(id + 1);
+                if $any(&told) {
+                    // a removal does not report the promise of a cancelled message, so they are counted
+                    self.gone += 1;
+                    self.lent.let_go_if_below(self.gone);
                 }
                 told
             }
@@ -158,7 +162,7 @@ fn is_any(told: &sys::Removed) -> bool {
 
 impl Handle {
     pub(crate) fn none() -> Handle {
-        Handle { inner: sys::Connection { at: null_mut() }, lent: Lent::default() }
+        Handle { inner: sys::Connection { at: null_mut() }, lent: Lent::default(), gone: 0 }
     }
 
     /// Opens a connection of an archive of this version.

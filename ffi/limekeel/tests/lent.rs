@@ -379,6 +379,48 @@ fn messages_of_all_kinds_come_in_order_and_let_go() {
     });
 }
 
+/// Messages that are taken away one by one, or several at once, cancelled ones among them: an owner goes as its message does.
+#[test]
+fn an_owner_goes_however_its_message_does() {
+    let mut dice = Dice(0x5eed);
+    let (mut connection, dropped) = (connection(), Dropped::default());
+    let (mut watched, mut next) = (VecDeque::new(), 0);
+    for _ in 0..30000 {
+        let gone = next - watched.len() as u64;
+        let end = match dice.below(12) {
+            kind @ 0..5 => {
+                match kind {
+                    0 | 1 => write_watched(&mut connection, next, &dropped),
+                    2 => drop(connection.write_static(b"for good").expect("it is accepted")),
+                    _ => drop(connection.write(b"a copy").expect("it is accepted")),
+                }
+                watched.push_back(kind < 2);
+                next += 1;
+                gone
+            }
+            5 => {
+                let _ = connection.cancel(gone + dice.below(watched.len() as u64 + 1));
+                gone
+            }
+            6 | 7 => {
+                let _ = connection.flush().expect("it is open");
+                gone
+            }
+            8 => {
+                let most = dice.below(99) as usize + 1;
+                let writes = |pieces: &[IoSlice<'_>]| Ok(most.min(pieces.iter().map(|piece| piece.len()).sum()));
+                connection.send_with(writes).expect("it takes").taken.promises.end
+            }
+            9 if dice.below(40) == 0 => connection.fail_flushed(1, true).expect("it is open").promises.end,
+            9 => gone + u64::from(connection.remove_with(1).expect("it is open").any),
+            _ => gone + u64::from(connection.remove().expect("it is open").any),
+        };
+        let left = watched.drain(..(end - gone) as usize).zip(gone..).filter_map(|(watched, id)| watched.then_some(id));
+        assert_eq!(names(&dropped), left.collect::<Vec<_>>());
+    }
+    assert!(next > 9000 && watched.len() < 9000, "{next} {}", watched.len());
+}
+
 #[test]
 fn a_connection_with_owners_goes_to_another_thread() {
     let (mut connection, dropped) = (connection(), Dropped::default());
