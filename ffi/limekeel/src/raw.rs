@@ -86,7 +86,8 @@ macro_rules! front_removals {
                 // SAFETY: as of a command.
                 let told = unsafe { sys::$export(&mut self.inner $(, $argument)*) };
                 if $any(&told) {
-                    // a removal does not report the promise of a cancelled message, so they are counted
+                    // a removal does not report the promise of a cancelled message, so they are counted: a handle is opened
+                    // once, and its promises count the writes from 0
                     self.gone += 1;
                     self.lent.let_go_if_below(self.gone);
                 }
