@@ -1,6 +1,7 @@
 -- What entries settle that are taken away, how messages end that leave one after the other, and that a call which lets
 -- several go makes its step.
-use Rattle.std.proofs.lemmas.List.{nil_from_length, take-append-le, take-take, drop_more, get_or-map}
+use Rattle.std.proofs.Common.{add-one}
+use Rattle.std.proofs.lemmas.List.{nil_from_length, take-append-le, take-take, drop_more, get_or-map, get_or-drop, get_or-take}
 use Rattle.std.proofs.lemmas.List.Sums.{count_by-le-length}
 use Rattle.std.specs.Prelude.{replicate, Ok}
 use Rattle.ob_types.specs.declared.refusal.Refusal.TheVariants.{FlushedLeft}
@@ -13,7 +14,8 @@ use Rattle.ob_seq.proofs.Words.{pending_entry, unflushed_id, unreached_entry, Pe
 use Rattle.ob_seq.proofs.Words.{waiting_state, whole, false, ended, Block, Cancelled, if◌then◌else◌, true, take-map}
 use Rattle.ob_seq.proofs.Words.{nat_tests, Option, Some, None, Cut, Count, Refusal, Success, TooManyBytes, bytes_in}
 use Rattle.ob_seq.proofs.Words.{blocks_left, change_between, closed_pending, cut_of, failing_step, front_taken, ltb}
-use Rattle.ob_seq.proofs.Words.{times, whole_cut}
+use Rattle.ob_seq.proofs.Words.{times, whole_cut, ◌-◌, Marks, Settings, counted, word_after_fall}
+use Rattle.ob_seq.proofs.Inside.States.{kept_taken, unsent_from}
 use Rattle.ob_seq.specs.Unsent.{all_entries}
 use Rattle.ob_seq.proofs.Inside.Rooms.{fresh_states, front_id_there, promises_there}
 use Rattle.ob_seq.specs.Steps.Step.{is_first_voided, Makes}
@@ -144,6 +146,31 @@ front_ends outcome line now count settles within left is =
     let first = drop_more (pending_entries line) count (pending_entry no_entry)
     (omega (arith, within, length-map line pending_entry)) in
     rw (is, left, first, taken_back_at line count within) (ends_as (get_or line count no_entry).taken_back outcome)
+
+-- one more is taken off the line, after *n* of them: what was first there, by the entry and those behind it that are left
+module _ (settings : Settings) (marks : Marks) (closed notice : Bool) (first items : List Entry) (flushed n : ℕ)
+    (entry : Entry) (word word' : ℕ) (before : n < flushed) (is : drop n first ≡ entry ∷ items)
+    (falls : word' ≡ cond notice (word_after_fall marks word entry.size (counted (entry ∷ items) - entry.size)) word) where
+  -- it is the one at that place
+  at_place : entry ≡ get_or (take flushed first) n no_entry
+  at_place =
+      sym (ap (λ (left : List Entry). get_or left 0 no_entry) is)
+      ∙ get_or-drop n first 0 no_entry ∙ rw (add-zero) (sym (get_or-take flushed first n no_entry before))
+
+  pub one_more_taken : (gone : List Outcome) (outcome : Outcome) (old : Pending) → n < length (take flushed first) →
+      whole (gone ++ map (ended outcome) (take n (take flushed first)))
+      (unsent_from settings marks closed (take (flushed - n) (entry ∷ items)) (drop (flushed - n) (entry ∷ items)) word)
+      ≡ times n (front_taken notice outcome) old →
+      whole (gone ++ map (ended outcome) (take (n + 1) (take flushed first)))
+      (unsent_from settings marks closed (take (flushed - (n + 1)) items) (drop (flushed - (n + 1)) items) word')
+      ≡ times (n + 1) (front_taken notice outcome) old
+  one_more_taken gone outcome old within so_far =
+      let some : 0 < flushed - n = omega (arith, before) in
+      let next : flushed - (n + 1) ≡ flushed - n - 1 = omega arith in
+      let left = one_more outcome gone (take flushed first) n (ended outcome entry) within (ap (ended outcome) at_place) in
+      rw (← left, next, add-one)
+      (kept_taken (gone ++ map (ended outcome) (take n (take flushed first))) settings marks closed notice outcome entry items
+      (flushed - n) word word' some falls ∙ ap (front_taken notice outcome) so_far)
 
 -- what stands in line leaves first
 pub first_in_line : (outcome : Outcome) (count : ℕ) (line unflushed : List Entry) → count ≤ length line →

@@ -57,6 +57,8 @@ impl Buffer {
     /// It takes the same few steps whatever is pending, and does not allocate.
     ///
     /// `Closed` comes if the buffer is closed.
+    // As at `Contents::add`, of the reply.
+    #[inline(always)]
     pub fn remove(&mut self) -> Result<Reply, Refusal>
         ensures obeys { Obeys self.old Remove result self.new }
         ensures frugal { ¬ IsErrOf result Refusal.NoMemory }
@@ -68,6 +70,7 @@ impl Buffer {
     /// `remove(Throwable)`), and costs the same. It does not allocate.
     ///
     /// `Closed` comes if the buffer is closed.
+    #[inline(always)]
     pub fn remove_with(&mut self, cause: Cause) -> Result<Reply, Refusal>
         ensures obeys { Obeys self.old (RemoveWith cause) result self.new }
         ensures frugal { ¬ IsErrOf result Refusal.NoMemory }
@@ -239,6 +242,7 @@ impl Buffer {
     }
 
     /// Takes the front away with this outcome, if there is one.
+    #[inline(always)]
     fn remove_as(&mut self, outcome: Outcome) -> Result<Reply, Refusal>
         requires { ¬ (outcome ≡ Outcome.Cancelled) }
         ensures obeys { Obeys self.old (removal outcome) result self.new }

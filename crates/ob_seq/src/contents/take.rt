@@ -62,8 +62,6 @@ impl Contents {
 
     /// Takes the front away, and returns whether its promise is settled by that: it is unless the entry was voided, and
     /// else it ended as cancelled. Without notice the word stays.
-    // Its callers are a removal and a loop: apart, each message that is taken away pays for a call.
-    #[inline(always)]
     pub fn take_front(&mut self, notice: bool) -> bool
         requires { 0 < length self.old.line }
         ensures settles { result ≡ not (is_first_voided (pending_entries self.old.line)) }
@@ -82,13 +80,23 @@ impl Contents {
     }
 
     /// Takes the first `count` in line away. Without notice the word stays.
+    // The total and the word are told at the end: else each entry waits for those of the one before it.
     pub fn take_first(&mut self, count: usize, notice: bool)
         requires { count ≤ length self.old.line }
         ensures { TakesFirst count notice self.old self.new }
     {
+        let mut total = self.total;
+        let mut word = self.word;
         for _ in 0..count {
-            self.take_front(notice);
+            let Some(entry) = self.entries.pop_front() else {
+                unreachable!();
+            };
+            total -= entry.size;
+            word = word::after_removal(self.marks, word, entry.size, total, notice);
         }
+        self.flushed -= count;
+        self.total = total;
+        self.word = word;
     }
 
     /// Takes away what a removal of bytes does that ends there.

@@ -1,10 +1,20 @@
-use Rattle.ob_seq.proofs.Words.{◌≡◌, ◌++◌, List, map, take, Outcome, ended, whole, times, front_taken}
+use Rattle.ob_seq.proofs.Words.{◌≡◌, ◌++◌, ◌-◌, List, map, take, drop, Outcome, Settings, counted, ended, whole, times, front_taken}
+use Rattle.std.specs.VecDeque.{deque_capacity}
+use Rattle.ob_seq.proofs.Inside.States.{unsent_from}
 use Rattle.ob_seq.proofs.contents.Contents.take_first.Given as goal
 
 abbrev pub invariant-loop : goal.invariant-loop
-invariant-loop l = record {
-  taken : (gone : List Outcome) (outcome : Outcome) →
-      whole (gone ++ map (ended outcome) (take l.counter l.fn.self.line)) l.self
-      ≡ times l.counter (front_taken l.fn.notice outcome) (whole gone l.fn.self);
-  room : l.self.room ≡ l.fn.self.room;
-}
+invariant-loop l =
+    let first = l.initial.self-inside in
+    let inside = l.self-inside in
+    let settings : Settings = record { marks = first.opened; estimate = first.estimate } in
+    let left = first.flushed - l.counter in record {
+      same : inside ≡ record first { entries = inside.entries };
+      items : inside.entries.items ≡ drop l.counter first.entries.items;
+      total : l.total ≡ counted inside.entries.items;
+      taken : (gone : List Outcome) (outcome : Outcome) →
+          whole (gone ++ map (ended outcome) (take l.counter l.fn.self.line))
+          (unsent_from settings first.marks first.closed (take left inside.entries.items) (drop left inside.entries.items)
+          l.word) ≡ times l.counter (front_taken l.fn.notice outcome) (whole gone l.fn.self);
+      room : deque_capacity inside.entries ≡ deque_capacity first.entries;
+    }
