@@ -44,15 +44,25 @@ same_taken : (few many most : ℕ) (blocks : List (List ℕ)) → length blocks 
 same_taken few many most blocks fits fits_too = grind (arith, cases_lt, take_all)
 
 -- what is offered if few messages are flushed
-pub few_offered : (few many max_count max_bytes : ℕ) (unsent : Unsent) → few ≤ many → length unsent.line ≤ few →
+few_flushed : (few many max_count max_bytes : ℕ) (unsent : Unsent) → few ≤ many → length unsent.line ≤ few →
     offered (min few max_count) max_bytes unsent ≡ offered (min many max_count) max_bytes unsent
-few_offered few many max_count max_bytes unsent less fits =
+few_flushed few many max_count max_bytes unsent less fits =
     grind (arith, few_with_bytes, few_blocks, length-map, cases_lt, same_taken)
+
+-- and if few pieces are wanted
+few_wanted : (few many max_count : ℕ) → few ≤ many → max_count ≤ few → min few max_count ≡ min many max_count
+few_wanted few many max_count less fits = grind (arith, cases_lt)
+
+-- so if either is few
+pub few_offered : (few many max_count max_bytes : ℕ) (unsent : Unsent) → few ≤ many →
+    min (length unsent.line) max_count ≤ few →
+    offered (min few max_count) max_bytes unsent ≡ offered (min many max_count) max_bytes unsent
+few_offered few many max_count max_bytes unsent less fits = grind (arith, cases_lt, few_flushed, few_wanted)
 
 -- so what a socket made of it is the same
 pub few_offers : (few many max_count max_bytes : ℕ) (unsent : Unsent) {sent_before : Option (List ℕ)}
     {calls_before : Option (List Call)} {offer : Offer} {sent_after : Option (List ℕ)} {calls_after : Option (List Call)} →
-    few ≤ many → length unsent.line ≤ few →
+    few ≤ many → min (length unsent.line) max_count ≤ few →
     Offers (min few max_count) max_bytes unsent sent_before calls_before offer sent_after calls_after →
     Offers (min many max_count) max_bytes unsent sent_before calls_before offer sent_after calls_after
 few_offers few many max_count max_bytes unsent {offer = offer} less fits offers =

@@ -52,6 +52,8 @@ impl Connection {
 
     /// Takes the first flushed message away, as sent, as `Buffer::remove` (Netty's `remove()`). It never runs out of
     /// memory. `Closed` is its only refusal.
+    // As at `Contents::add`, of the reply.
+    #[inline(always)]
     pub fn remove(&mut self) -> Result<Removed, Refusal>
         ensures obeys { Obeys self.old Remove removed_reply result self.new }
         ensures frugal { ¬ IsErrOf result Refusal.NoMemory }

@@ -14,7 +14,7 @@ use std::io::IoSlice;
 /// How many pieces a socket is offered at once, at most: what one call of Linux takes.
 const MOST_PIECES: usize = 1024;
 
-/// For how many pieces there is room if no more messages are flushed.
+/// For how many pieces there is room if no more messages are flushed, or no more pieces are wanted.
 const FEW_PIECES: usize = 64;
 
 /// What a socket made of an offer.
@@ -60,16 +60,16 @@ impl Connection {
         ensures { Offers (min most_pieces max_count) max_bytes self.now.unsent (S.sent socket.old)
             (S.calls socket.old) result (S.sent socket.new) (S.calls socket.new) }
     {
-        if self.contents.line_count() <= FEW_PIECES {
+        if self.contents.line_count().min(max_count as usize) <= FEW_PIECES {
             self.offer_few(socket, max_count, max_bytes)
         } else {
             self.offer_many(socket, max_count, max_bytes)
         }
     }
 
-    /// The same, if at most 64 messages are flushed.
+    /// The same, if at most 64 messages are flushed, or `max_count` is at most 64.
     fn offer_few<S: Socket>(&self, socket: &mut S, max_count: u32, max_bytes: u32) -> Offer
-        requires { length self.now.unsent.line ≤ 64 }
+        requires { min (length self.now.unsent.line) max_count ≤ 64 }
         ensures { Offers (min most_pieces max_count) max_bytes self.now.unsent (S.sent socket.old)
             (S.calls socket.old) result (S.sent socket.new) (S.calls socket.new) }
     {

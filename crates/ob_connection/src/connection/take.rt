@@ -29,6 +29,7 @@ impl Connection {
     }
 
     /// Takes the first flushed message away with this outcome.
+    #[inline(always)]
     pub(super) fn remove_as(&mut self, outcome: Outcome) -> Result<Removed, Refusal>
         requires { ¬ (outcome ≡ Cancelled) }
         ensures obeys { Obeys self.old (removal outcome) removed_reply result self.new }
