@@ -33,8 +33,10 @@ use std::marker::Model;
 /// a ring with room for more than 8 entries has room for fewer than four times as many as wait, or for 8; a close
 /// gives it all back. If the allocator refuses the smaller ring, the connection keeps the one that it has until the
 /// next removal.
+#[repr(C)]
 #[derive(Debug, Drop)]
 pub struct Connection {
+    /// First, as what it begins with.
     contents: Contents,
     /// How many messages are gone, which is the promise of the first that waits.
     gone: u64,
@@ -80,6 +82,15 @@ impl Connection {
         self.contents.shrink_to_fit();
     }
 
+    /// Notes where the newest entry lies, in its first word, for callers in C and Rust: they have the processor bring what
+    /// lies behind it (`ffi/limekeel.h`). It changes nothing else.
+    #[inline(always)]
+    pub fn note_newest(&mut self)
+        ensures { self.new ≡ self.old }
+    {
+        self.contents.note_newest();
+    }
+
     /// Each connection stands for some list of accepted commands, so what its calls promise is promised of some list. It
     /// does nothing.
     pub fn stands_for_some_commands(&self)
@@ -97,6 +108,7 @@ impl Connection {
     }
 
     /// Gives memory back that what waits does not need, as `Contents::give_back`. If nothing waits no chunk is kept.
+    #[inline(always)]
     fn give_back(&mut self)
         ensures same { self.new ≡ roomed (room_in self.new) self.old }
         ensures less { TakesNoRoom self.old self.new }

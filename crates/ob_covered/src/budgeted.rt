@@ -23,8 +23,10 @@ use std::marker::Model;
 
 /// A connection whose pending bytes a seat of its own covers. Its calls return what those of the connection do, and the
 /// turn of pressure that they made.
+#[repr(C)]
 #[derive(Drop)]
 pub struct Budgeted {
+    /// First, as what it begins with.
     connection: Connection,
     cover: Cover,
 }
@@ -58,6 +60,14 @@ impl Budgeted {
         ensures { result.now ≡ self.now.connection }
     {
         &self.connection
+    }
+
+    /// Notes where the newest entry lies, as `Connection::note_newest`. It changes nothing else.
+    #[inline(always)]
+    pub fn note_newest(&mut self)
+        ensures { self.new ≡ self.old }
+    {
+        self.connection.note_newest();
     }
 
     /// The bytes that its seat holds: at least those that are pending.

@@ -29,8 +29,10 @@ use std::marker::Model;
 ///
 /// Its calls are those of `Connection`, and each promises besides which events it brings. A deadline is the caller's: once
 /// it is over, `give_up` fails what is left.
+#[repr(C)]
 #[derive(Drop)]
 pub struct ManagedConnection {
+    /// First, as what it begins with.
     connection: Connection,
     limits: Limits,
     opened: u64,
@@ -98,6 +100,14 @@ impl ManagedConnection {
         ensures opened { opened_as self.new ≡ opened_as self.old }
     {
         self.connection.shrink_to_fit();
+    }
+
+    /// Notes where the newest entry lies, as `Connection::note_newest`. It changes nothing else.
+    #[inline(always)]
+    pub fn note_newest(&mut self)
+        ensures { self.new ≡ self.old }
+    {
+        self.connection.note_newest();
     }
 
     /// Each managed connection stands for some list of events, so what its calls promise is promised of some list. It does

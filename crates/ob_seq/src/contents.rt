@@ -18,6 +18,7 @@ pub(crate) mod word;
 mod write;
 
 use crate::entry::Entry;
+use crate::newest::Newest;
 pub use cut::Cut;
 use ob_types::{Estimate, WaterMark};
 use std::alloc::Global;
@@ -43,8 +44,11 @@ pub use take::Front;
 /// ```
 ///
 /// The ring has no gap: a voided entry stays in line, as an empty block that counts nothing, until it is taken away.
+#[repr(C)]
 #[derive(Debug, Drop)]
 pub struct Contents {
+    /// First, so that callers in C and Rust find it.
+    newest: Newest,
     /// The marks of the opening. No call reads them: contracts judge a history by what its buffer was opened with.
     opened: WaterMark,
     /// The marks in force, by which the next moment and each look go.
@@ -81,6 +85,7 @@ impl Contents {
         // It has none, and a contract can say so only of a shrunk one.
         entries.shrink_to_fit();
         Contents {
+            newest: Newest::of(&entries),
             opened: marks,
             marks,
             estimate,

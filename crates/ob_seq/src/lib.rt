@@ -7,6 +7,7 @@ mod entry;
 mod flushed;
 mod laws;
 mod look;
+mod newest;
 mod outcomes;
 mod worked;
 

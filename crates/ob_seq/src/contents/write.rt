@@ -11,6 +11,7 @@ ghost use Rattle.ob_seq.specs.Steps.Commands.{admitted, has_bytes_left, written}
 
 use crate::contents::{Contents, word};
 use crate::entry::Entry;
+use crate::newest::Newest;
 use ob_types::{Change, Message, Refusal};
 use std::alloc::AllocError;
 use std::collections::VecDeque;
@@ -74,6 +75,15 @@ impl Contents {
         let before = self.word;
         self.word = word::after_rise(self.marks, before, size, self.total);
         Ok(Change::between(before, self.word))
+    }
+
+    /// Notes where the newest entry lies, in its first word, for callers in C and Rust: they have the processor bring what
+    /// lies behind it (`ffi/limekeel.h`). It changes nothing else.
+    #[inline(always)]
+    pub fn note_newest(&mut self)
+        ensures { self.new ≡ self.old }
+    {
+        self.newest = Newest::of(&self.entries);
     }
 }
 
