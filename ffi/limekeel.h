@@ -65,7 +65,7 @@ extern "C" {
 
 /* A number of the structs, functions and numbers of this header. limekeel_open says LIMEKEEL_OTHER_VERSION to an archive of
  * another. Before 1.0 each version may have another. */
-#define LIMEKEEL_EDGE 3279013865u
+#define LIMEKEEL_EDGE 409770010u
 
 /* What may tell a change of writability is not to be dropped. */
 #if (defined(__cplusplus) && __cplusplus >= 201703L) || (defined(__STDC_VERSION__) && __STDC_VERSION__ >= 202311L)
@@ -538,6 +538,11 @@ static inline uint32_t limekeel_open(struct limekeel_connection *connection, uin
 /* Keeps memory for what waits and for no more: none if nothing waits. For a connection that has sent all and is idle.
  * It changes nothing else, and if a smaller block is refused the connection keeps the one that it has. */
 uint32_t limekeel_shrink_to_fit(struct limekeel_connection *connection);
+
+/* Notes in the first word behind the handle where the newest message lies. Call limekeel_ask_ahead, and those of its kind. */
+uint32_t limekeel_note_newest(struct limekeel_connection *connection);
+uint32_t limekeel_managed_note_newest(struct limekeel_managed *managed);
+uint32_t limekeel_budgeted_note_newest(struct limekeel_budgeted *budgeted);
 
 /* Frees a connection with all that waits in it. Promises that wait are not reported. */
 uint32_t limekeel_free(struct limekeel_connection *connection);
@@ -1130,6 +1135,36 @@ LIMEKEEL_TOLD static inline struct limekeel_pressed_written limekeel_budgeted_wr
                                                                                         const void *bytes, size_t length)
 {
     return limekeel_budgeted_write_lent_bytes(budgeted, length > 0 ? (const uint8_t *)bytes : (const uint8_t *)"", length);
+}
+
+/* Asks the processor for what lies behind the newest message. */
+static inline void limekeel_ask_behind(const uint8_t *at)
+{
+#ifdef __GNUC__
+    /* an entry has 64 bytes, and the processor brings the one beside it too */
+    __builtin_prefetch(*(const uint8_t *const *)(const void *)at + 128, 1);
+#else
+    (void)at;
+#endif
+}
+
+/* Asks the processor for the memory in which the next messages of this connection come to lie. Call it after a write if many
+ * connections are written to in turn, as when one message goes to many clients: the memory comes while the others have their
+ * turn, and else each write waits for it. It changes nothing; without a connection it does nothing. */
+static inline void limekeel_ask_ahead(struct limekeel_connection *connection)
+{
+    if (limekeel_note_newest(connection) == LIMEKEEL_OK)
+        limekeel_ask_behind(connection->at);
+}
+static inline void limekeel_managed_ask_ahead(struct limekeel_managed *managed)
+{
+    if (limekeel_managed_note_newest(managed) == LIMEKEEL_OK)
+        limekeel_ask_behind(managed->at);
+}
+static inline void limekeel_budgeted_ask_ahead(struct limekeel_budgeted *budgeted)
+{
+    if (limekeel_budgeted_note_newest(budgeted) == LIMEKEEL_OK)
+        limekeel_ask_behind(budgeted->at);
 }
 
 /* A message that was written where it was made keeps its bytes there. */

@@ -62,11 +62,14 @@ bool queue_shared_begin(const uint8_t *bytes, uint32_t size)
     return size <= FEW || limekeel_block_new(&block, bytes, size) == LIMEKEEL_OK;
 }
 
+/* The next message comes when the other clients had this one. */
 enum written queue_shared_write(struct queue *queue)
 {
-    if (shared_size <= FEW)
-        return queue_write(queue, shared, shared_size);
-    return was_written(queue, limekeel_write_block(&queue->connection, &block));
+    enum written written = shared_size <= FEW
+                               ? queue_write(queue, shared, shared_size)
+                               : was_written(queue, limekeel_write_block(&queue->connection, &block));
+    limekeel_ask_ahead(&queue->connection);
+    return written;
 }
 
 void queue_shared_end(void)

@@ -168,6 +168,11 @@ abbrev pub IsLetGo : {A : Type 0} → Option A → ℕ → Option A → Type 0
 IsLetGo None status new = (status ≡ not_open) × (new ≡ None)
 IsLetGo (Some old) status new = (status ≡ done) × (new ≡ None)
 
+-- all stays as it is, and the status says whether there is anything
+abbrev pub LeavesAsIs : {A : Type 0} → Option A → ℕ → Option A → Type 0
+LeavesAsIs None status new = (status ≡ not_open) × (new ≡ None)
+LeavesAsIs (Some old) status new = (status ≡ done) × (new ≡ Some old)
+
 -- the bytes of a block are written, if there are both a connection and a block
 abbrev pub WritesBlock : Option Connected → Option (List ℕ) → Written → Option Connected → Type 0
 WritesBlock None bytes told new = (told ≡ written_in_c (Err not_open)) × (new ≡ None)

@@ -1,6 +1,7 @@
 //! A connection for C and for Rust: each export tests its handles and calls `ob_connection`.
 #![tactic(auto)]
 
+mod ahead;
 mod block;
 mod blocks;
 mod budget;

@@ -43,7 +43,7 @@ pub(crate) const BAD_BOUNDS: u32 = 22;
 
 /// A number of the structs, functions and numbers that C and this library have to agree on: `ffi/check_edge` computes it of
 /// them, and wants another one if they change.
-pub(crate) const EDGE: u32 = 3279013865;
+pub(crate) const EDGE: u32 = 409770010;
 
 /// What a call has to report: its reply, or else the status of a handle that holds nothing, or of its refusal.
 pub(crate) fn accepted<T>(answer: Option<Result<T, Refusal>>) -> Result<T, u32>

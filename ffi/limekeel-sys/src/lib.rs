@@ -23,7 +23,7 @@ mod heap;
 pub const PIECES: usize = 1024;
 
 /// A number of these declarations, which `limekeel_open_for` compares with the archive's.
-pub const EDGE: u32 = 3279013865;
+pub const EDGE: u32 = 409770010;
 
 macro_rules! numbers {
     ($($name:ident = $number:literal),* $(,)?) => {
@@ -234,6 +234,9 @@ unsafe extern "C" {
         unknown: u32,
     ) -> u32;
     pub fn limekeel_shrink_to_fit(connection: *mut Connection) -> u32;
+    pub fn limekeel_note_newest(connection: *mut Connection) -> u32;
+    pub fn limekeel_managed_note_newest(managed: *mut Managed) -> u32;
+    pub fn limekeel_budgeted_note_newest(budgeted: *mut Budgeted) -> u32;
     pub fn limekeel_free(connection: *mut Connection) -> u32;
     pub fn limekeel_block_of_bytes(block: *mut Block, bytes: *const u8, length: usize) -> u32;
     pub fn limekeel_block_share(block: *const Block, second: *mut Block) -> u32;

@@ -207,6 +207,12 @@ impl BudgetedConnection {
         Ok(BudgetedConnection { handle, cancelled: Cancelled::default(), waiters: Arc::clone(&budget.waiters) })
     }
 
+    /// As [`crate::Connection::ask_ahead`].
+    #[inline]
+    pub fn ask_ahead(&mut self) {
+        self.handle.ask_ahead();
+    }
+
     /// Gives back all that it holds above what is pending: for a connection that is idle, as before its task waits.
     #[must_use = "nothing tells the change of pressure again"]
     pub fn rest(&mut self) -> Option<Pressure> {

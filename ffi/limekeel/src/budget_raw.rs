@@ -8,7 +8,7 @@ use crate::budget::Bounds;
 use crate::connection::{Estimate, Marks};
 use crate::lends::{Archived, Lends, WrittenWithin};
 use crate::lent::Lent;
-use crate::raw::{Gather, Place, Slot, commands, front_removals, looks, removals};
+use crate::raw::{Gather, Place, Slot, asks_ahead, commands, front_removals, looks, removals};
 use crate::replies::{Refusal, done};
 use crate::views::Front;
 
@@ -104,6 +104,8 @@ impl Budgeted {
         user_bit(index: u32, writable: bool) -> sys::PressedChanged = limekeel_budgeted_user_bit;
         set_marks(low: u32, high: u32) -> sys::PressedDone = limekeel_budgeted_set_marks;
     }
+
+    asks_ahead! { limekeel_budgeted_note_newest }
 
     removals! { sys::PressedTaken, taken;
         take_sent(n: u64) = limekeel_budgeted_take_sent;

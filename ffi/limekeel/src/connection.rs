@@ -210,6 +210,14 @@ impl Connection {
         Ok(self.cancelled.settled_by(taken))
     }
 
+    /// Asks the processor for the memory in which the next messages come to lie. Call it after a write if many connections are
+    /// written to in turn, as when one message goes to many clients: the memory comes while the others have their turn, and else
+    /// each write waits for it. It changes nothing.
+    #[inline]
+    pub fn ask_ahead(&mut self) {
+        self.handle.ask_ahead();
+    }
+
     /// Keeps memory for what waits and for no more: none if nothing waits. For a connection that has sent all and is
     /// idle. It cannot fail: if a smaller block is refused, the connection keeps the one that it has.
     pub fn shrink_to_fit(&mut self) {

@@ -271,6 +271,12 @@ impl ManagedConnection {
         self.taken(told)
     }
 
+    /// As [`crate::Connection::ask_ahead`].
+    #[inline]
+    pub fn ask_ahead(&mut self) {
+        self.handle.ask_ahead();
+    }
+
     /// As [`crate::Connection::shrink_to_fit`].
     pub fn shrink_to_fit(&mut self) {
         self.handle.shrink_to_fit();

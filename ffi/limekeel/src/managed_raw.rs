@@ -7,7 +7,7 @@ use crate::connection::{Estimate, Marks};
 use crate::lends::{Archived, Lends};
 use crate::lent::Lent;
 use crate::managed::Limits;
-use crate::raw::{Gather, Place, Slot, commands, front_removals, looks, removals};
+use crate::raw::{Gather, Place, Slot, asks_ahead, commands, front_removals, looks, removals};
 use crate::replies::{Refusal, done};
 use crate::views::Front;
 
@@ -75,6 +75,8 @@ impl Managed {
         user_bit(index: u32, writable: bool) -> sys::ToldChanged = limekeel_managed_user_bit;
         set_marks(low: u32, high: u32) -> sys::ToldDone = limekeel_managed_set_marks;
     }
+
+    asks_ahead! { limekeel_managed_note_newest }
 
     removals! { sys::ToldTaken, taken;
         take_sent(n: u64) = limekeel_managed_take_sent;

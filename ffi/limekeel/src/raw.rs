@@ -14,6 +14,7 @@
 //!   while another looks at the connection, since a look writes nothing.
 
 use limekeel_sys as sys;
+use std::arch::x86_64::{_MM_HINT_T0, _mm_prefetch};
 use std::fmt::{self, Debug, Formatter};
 use std::io::IoSlice;
 use std::marker::PhantomData;
@@ -40,6 +41,22 @@ pub(crate) struct Handle {
 // `Handle` from being `Sync`.
 unsafe impl Send for Handle {}
 
+/// Has the processor bring what lies behind the newest message of a connection.
+///
+/// # Safety
+///
+/// The pointer is that of a handle that holds a connection, whose first word says where that message lies.
+#[inline]
+pub(crate) unsafe fn ask_behind(held: *const u8) {
+    // an entry has 64 bytes, and the processor brings the one beside it too
+    const AHEAD: usize = 128;
+    // SAFETY: the word is there, by the caller. What it says is asked for and not read, which fails for no address.
+    unsafe {
+        let newest = held.cast::<*const i8>().read();
+        _mm_prefetch::<_MM_HINT_T0>(newest.wrapping_add(AHEAD));
+    }
+}
+
 /// Calls an export with the handle of a `&mut`, and what else it takes by value.
 macro_rules! commands {
     ($($name:ident($($argument:ident: $kind:ty),*) -> $answer:ty = $export:ident;)*) => {
@@ -54,6 +71,23 @@ macro_rules! commands {
 }
 
 pub(crate) use commands;
+
+/// Has the processor bring the memory of the next messages, by the export that notes where the newest one lies.
+macro_rules! asks_ahead {
+    ($export:ident) => {
+        #[inline]
+        pub(crate) fn ask_ahead(&mut self) {
+            // SAFETY: as of a command; and the handle holds a connection, if that was noted.
+            unsafe {
+                if sys::$export(&mut self.inner) == sys::OK {
+                    $crate::raw::ask_behind(self.inner.at);
+                }
+            }
+        }
+    };
+}
+
+pub(crate) use asks_ahead;
 
 /// The same of those that tell which messages are gone: what these were lent is let go. `$taken` is where the answer tells it.
 macro_rules! removals {
@@ -182,6 +216,8 @@ impl Handle {
         user_bit(index: u32, writable: bool) -> sys::Changed = limekeel_user_bit;
         set_marks(low: u32, high: u32) -> u32 = limekeel_set_marks;
     }
+
+    asks_ahead! { limekeel_note_newest }
 
     pub(crate) fn shrink_to_fit(&mut self) {
         self.lent.give_back();

@@ -30,6 +30,7 @@ fn pressure_is_told_as_it_begins_and_as_it_ends() {
     let (mut slow, mut fast) = (within(&budget), within(&budget));
     for count in 1..=10 {
         assert_eq!(write(&mut slow), Ok((count == 9).then_some(Pressure::Began)), "write {count}");
+        slow.ask_ahead();
         let seen = BudgetLook { total: count * 100, is_pressed: count >= 9 };
         assert_eq!((budget.look(), fast.look_at_budget(), slow.held()), (seen, seen, seen.total));
     }

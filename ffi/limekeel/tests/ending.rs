@@ -34,6 +34,24 @@ fn it_is_empty_if_nothing_is_flushed() {
 }
 
 #[test]
+fn asking_ahead_changes_nothing_that_shows() {
+    let mut connection = open();
+    connection.ask_ahead();
+    for id in 0..1000 {
+        assert_eq!(connection.write(b"some").expect("it is accepted").id, id);
+        let before = (connection.look(), connection.front(), connection.current());
+        connection.ask_ahead();
+        assert_eq!((connection.look(), connection.front(), connection.current()), before);
+    }
+    let _ = connection.flush().expect("it is open");
+    assert_eq!(connection.take_sent(4000).expect("they wait").promises, 0..1000);
+    connection.ask_ahead();
+    let _ = connection.close(1).expect("nothing is flushed");
+    connection.ask_ahead();
+    assert_eq!(connection.write(b"more"), Err(Refusal::Closed));
+}
+
+#[test]
 fn shrinking_changes_nothing_that_shows() {
     let mut connection = open();
     for _ in 0..1000 {

@@ -41,6 +41,7 @@ fn the_end_is_told_by_what_takes_the_last_message_away() {
     let told = connection.remove().expect("it is open");
     assert_eq!((told.answer.settled, told.finished), (Some((1, Outcome::Success)), true));
     connection.shrink_to_fit();
+    connection.ask_ahead();
     assert!(connection.is_finished() && connection.is_empty());
     assert!(!connection.finish(), "it is told once");
     assert!(!connection.close(1).expect("nothing is flushed").finished);

@@ -116,7 +116,14 @@ impl Client {
         if self.answers.len() < MUCH { Ok(()) } else { self.end_message() }
     }
 
-    pub fn write_block(&mut self, block: &Block) -> Result<(), Refusal> {
+    /// Writes what many clients hear: the next message comes when the others had this one.
+    pub fn publish(&mut self, block: &Block) -> Result<(), Refusal> {
+        let written = self.write_block(block);
+        self.connection.ask_ahead();
+        written
+    }
+
+    fn write_block(&mut self, block: &Block) -> Result<(), Refusal> {
         if block.len() <= FEW {
             return self.write(block);
         }

@@ -210,7 +210,7 @@ impl Server {
             let place = self.joined[at];
             if let Some(client) = &mut self.clients[place] {
                 // one that refuses it is closed by its next turn
-                let _ = client.write_block(block);
+                let _ = client.publish(block);
             }
             self.note_held(place);
             self.go_on_later(place);
