@@ -1,14 +1,16 @@
 -- The first item that breaks what holds of each item, or what makes receipts a caller's own.
 use Rattle.std.proofs.Common.{◌≡◌, ℕ, ◌+◌, ◌-◌, ◌<◌, ◌≤◌, List, [], ◌∷◌, ◌++◌, inl, inr, length, take, get_or, sym, ap}
-use Rattle.std.proofs.Common.{◌∙◌, subst, arith}
+use Rattle.std.proofs.Common.{◌∙◌, subst, arith, zero, suc}
 use Rattle.std.specs.List.{All}
 use Rattle.std.proofs.lemmas.Bool.{cases_eq}
 use Rattle.std.proofs.lemmas.List.{get_or-take, get_or_read, length-take-le, take_all, take_more}
 use Rattle.std.proofs.lemmas.List.Elements.{All-push, All-take}
 use Rattle.std.proofs.lemmas.List.Quantifiers.{all_pairs_push}
-use Rattle.ob_history.specs.History.{IsFirstBreak, AreOwn, IsReceiptIn}
+use Rattle.ob_seq.specs.Rows.{Settings}
+use Rattle.ob_history.specs.History.{IsFirstBreak, AreOwn, IsReceiptIn, IsSeenIn}
 use Rattle.ob_history.specs.declared.receipt.Receipt.{Receipt}
 use Rattle.ob_history.specs.declared.record.Record.{Record}
+use Rattle.ob_history.specs.declared.seen.Seen.{Seen}
 
 -- what holds of all items up to the end holds of the list
 pub up_to_end : {X : Type 0} (property : List X → Type 0) (xs : List X) (i : ℕ) → length xs ≤ i →
@@ -31,6 +33,20 @@ first_against P xs i d within before against =
 -- if something holds of each item, no item is the first against it
 pub never_against : {X : Type 0} (P : X → Type 0) (xs : List X) (i : ℕ) → IsFirstBreak (All P) xs i → All P xs → ⊥
 never_against P xs i first all = first.broken (All-take P (i + 1) xs all)
+
+-- if the first look names more records than there are, and all before one are of the history, that one is the first
+pub none_before : (settings : Settings) (records : List Record) (seen : List Seen) (index : ℕ) (d : Seen) →
+    index < length seen → All (IsSeenIn settings records) (take index seen) →
+    All (λ one. length records < one.place) (take 1 seen) → length records < (get_or seen index d).place
+none_before settings records seen zero d within before all =
+    last_of (λ (one : Seen). length records < one.place) seen 0 d within all
+none_before settings records seen (suc index) d within before all =
+    let some : 0 < length seen = omega (arith, within) in
+    let long : length (take (suc index) seen) ≡ suc index = length-take-le (suc index) seen (omega (arith, within)) in
+    let first = subst (IsSeenIn settings records) (get_or-take (suc index) seen 0 d (omega arith))
+    (before 0 d (omega (arith, long))) in
+    let above = last_of (λ (one : Seen). length records < one.place) seen 0 d some all in
+    absurd (omega (arith, above, first.within))
 
 -- that a receipt's place is above that of the one before it
 abbrev pub RisesAt : List Receipt → ℕ → Type 0

@@ -3,7 +3,7 @@ use Rattle.std.specs.Prelude.{IsTrue}
 use Rattle.std.proofs.Common.{refl, arith}
 use Rattle.std.proofs.lemmas.List.Elements.{All-more}
 use Rattle.ob_history.specs.History.{IsSeenIn}
-use Rattle.ob_history.proofs.First.{first_against, never_against, up_to_end}
+use Rattle.ob_history.proofs.First.{first_against, never_against, none_before, up_to_end}
 use Rattle.ob_history.proofs.recorded.Recorded.first_foreign_seen.Goals as goal
 
 pub loop-index-preserved : goal.loop-index-preserved
@@ -37,3 +37,9 @@ returns-then-not-branch-clause-seen c = (
   λ all. absurd (never_against (IsSeenIn c.args.self.now.settings c.args.self.now.records) c.args.seen.now
       c.loop-index.index (returns-then-not-branch-clause-foreign c) all),
 )
+
+pub returns-in_err-check_along-clause-frugal : goal.returns-in_err-check_along-clause-frugal
+returns-in_err-check_along-clause-frugal c all =
+    let looks = none_before c.args.self.now.settings c.args.self.now.records c.args.seen.now c.loop-index.index _
+    c.loop-index-test.true c.loop-index.invariant.seen all in
+    let no = c.in_err-check_along.ensures.frugal looks in absurd (cc)
