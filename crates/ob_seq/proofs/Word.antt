@@ -1,5 +1,5 @@
 -- The word: its bits in binary, the mark, and both after one more command.
-use Rattle.std.proofs.Common.{add-one, bit_or}
+use Rattle.std.proofs.Common.{add-one, bit_or, ◌%◌}
 use Rattle.std.proofs.Math.Nat.{pow-suc, mul_assoc, mul_comm, mul-add, mul-zero}
 use Rattle.ob_seq.proofs.Words.{◌≡◌, ℕ, zero, suc, ◌+◌, ◌*◌, ◌^◌, ◌/◌, ◌<◌, Bool, false, refl, sym, ap, ◌∙◌, cond}
 use Rattle.ob_seq.proofs.Words.{arith, ltb, sum_by, nat_tests, range_with_len, bit_at, sum_by-cons, bit_at_lowest}
@@ -93,6 +93,10 @@ with_bit_0 n (suc i) =
 -- to set bit 0 is to make the number odd
 pub bit_or_one : (n : ℕ) → bit_or n 1 ≡ n / 2 * 2 + 1
 bit_or_one n = same_from_bits _ _ (with_bit_0 n)
+
+-- a word that is odd has its mark
+pub marked_stays : (word : ℕ) → ¬ (word % 2 ≡ 0) → with_mark true word ≡ word
+marked_stays word odd = omega (arith, odd)
 
 module _ (settings : Settings) (commands : List Command) where
   abbrev digits : ℕ → Bool

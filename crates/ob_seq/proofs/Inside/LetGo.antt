@@ -18,7 +18,7 @@ use Rattle.ob_seq.proofs.Words.{times, whole_cut, ◌-◌, Marks, Settings, coun
 use Rattle.ob_seq.proofs.Inside.States.{kept_taken, unsent_from}
 use Rattle.ob_seq.specs.Unsent.{all_entries}
 use Rattle.ob_seq.proofs.Inside.Rooms.{fresh_states, front_id_there, promises_there}
-use Rattle.ob_seq.specs.Steps.Step.{is_first_voided, Makes}
+use Rattle.ob_seq.specs.Steps.Step.{is_first_voided, Makes, with_mark}
 use Rattle.ob_seq.specs.Steps.Commands.{bytes_reply, bytes_step, closing_step}
 use Rattle.ob_seq.specs.Kept.{LetsGo}
 use Rattle.ob_seq.specs.Outcomes.{Endings}
@@ -146,6 +146,22 @@ front_ends outcome line now count settles within left is =
     let first = drop_more (pending_entries line) count (pending_entry no_entry)
     (omega (arith, within, length-map line pending_entry)) in
     rw (is, left, first, taken_back_at line count within) (ends_as (get_or line count no_entry).taken_back outcome)
+
+-- the word once the pending bytes fell from one sum to another, with notice or without
+abbrev pub word_fallen : Marks → Bool → ℕ → ℕ → ℕ → ℕ
+word_fallen marks notice word from to = cond notice (word_after_fall marks word (from - to) to) word
+
+-- a clear mark is not cleared
+still_clear : (word : ℕ) → with_mark false (with_mark false word) ≡ with_mark false word
+still_clear word = omega arith
+
+-- a fall in two steps turns it as one does
+pub falls_on : (marks : Marks) (notice : Bool) (word from between size : ℕ) → between ≤ from → size ≤ between →
+    word_fallen marks notice word from (between - size)
+    ≡ cond notice (word_after_fall marks (word_fallen marks notice word from between) size (between - size))
+    (word_fallen marks notice word from between)
+falls_on marks false word from between size less some = refl
+falls_on marks true word from between size less some = grind (arith, nat_tests, still_clear, less, some)
 
 -- one more is taken off the line, after *n* of them: what was first there, by the entry and those behind it that are left
 module _ (settings : Settings) (marks : Marks) (closed notice : Bool) (first items : List Entry) (flushed n : ℕ)

@@ -236,6 +236,10 @@ impl Buffer {
     fn admits(&self, message: &Message) -> Result<u32, Refusal>
         ensures { result ≡ asked buffer_limit message.now self.now }
     {
+        // Asked here too, before the size: else the tests of a write prepare the refusals of each other.
+        if self.contents.is_closed() {
+            return Err(Refusal::Closed);
+        }
         let size = pending_size(message, self.contents.estimate());
         let writes = self.promise_count() as u64;
         self.contents.admits(size, writes, MAX_WRITES as u64)

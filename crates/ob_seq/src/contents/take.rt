@@ -80,23 +80,23 @@ impl Contents {
     }
 
     /// Takes the first `count` in line away. Without notice the word stays.
-    // The total and the word are told at the end: else each entry waits for those of the one before it.
+    // The total and the word are told at the end: else each entry waits for those of the one before it. What falls in steps
+    // turns the word as at once, since the last step ends lowest.
     pub fn take_first(&mut self, count: usize, notice: bool)
         requires { count ≤ length self.old.line }
         ensures { TakesFirst count notice self.old self.new }
     {
         let mut total = self.total;
-        let mut word = self.word;
         for _ in 0..count {
             let Some(entry) = self.entries.pop_front() else {
                 unreachable!();
             };
             total -= entry.size;
-            word = word::after_removal(self.marks, word, entry.size, total, notice);
         }
+        let fallen = self.total - total;
         self.flushed -= count;
         self.total = total;
-        self.word = word;
+        self.word = word::after_removal(self.marks, self.word, fallen, total, notice);
     }
 
     /// Takes away what a removal of bytes does that ends there.

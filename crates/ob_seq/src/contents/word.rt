@@ -1,6 +1,6 @@
 //! The word: its mark, bit 0, and the user bits.
 
-ghost use Rattle.std.specs.Prelude.{◌≡◌, ◌≤◌, ◌==◌, if◌then◌else◌};
+ghost use Rattle.std.specs.Prelude.{◌≡◌, ◌≤◌, ◌==◌, ℕ, false, if◌then◌else◌};
 ghost use Rattle.std.specs.Int.{bit_at};
 ghost use Rattle.ob_seq.specs.Steps.Commands.{bit_step, with_user_bit};
 ghost use Rattle.ob_seq.specs.Steps.Step.{word_after_rise, word_after_fall};
@@ -40,6 +40,14 @@ pub fn after_rise(marks: WaterMark, word: u32, size: u32, total: u32) -> u32
     } else {
         word
     }
+}
+
+/// Whether a rise to `total` bytes can change the word: it cannot below the high mark, nor once the mark is set.
+#[tactic(auto, using(crate::proofs::Word::marked_stays))]
+pub fn can_rise(marks: WaterMark, word: u32, total: u32) -> bool
+    ensures { (size : ℕ) → result ≡ false → word_after_rise marks word size total ≡ word }
+{
+    total > marks.high() && word % 2 == 0
 }
 
 /// The word after the pending bytes fell by `size` to `total`, with notice. A fall by 0 is none.

@@ -73,6 +73,10 @@ impl Contents {
         });
         self.total += size;
         let before = self.word;
+        // Most often it stays, and no write waits then for the word of the one before.
+        if !word::can_rise(self.marks, before, self.total) {
+            return Ok(None);
+        }
         self.word = word::after_rise(self.marks, before, size, self.total);
         Ok(Change::between(before, self.word))
     }
