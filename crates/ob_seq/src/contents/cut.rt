@@ -25,8 +25,8 @@ impl Contents {
     {
         let mut whole = 0;
         let mut rest = n;
-        while whole < self.flushed {
-            let Message::Block(bytes) = &self.entries[whole].message else {
+        for entry in self.entries.range(..self.flushed) {
+            let Message::Block(bytes) = &entry.message else {
                 break;
             };
             let left = bytes.len() as u64;
