@@ -3,11 +3,23 @@
  *
  * They are weak, so that a program that defines all three has its own. liblimekeel.a has this file too.
  */
+#include <stdatomic.h>
 #include <stdlib.h>
+#include <string.h>
+#ifdef __linux__
+#include <malloc.h>
+#endif
 
 #include "limekeel.h"
 
 #define WEAK __attribute__((weak))
+
+/* A ring of entries doubles while a burst is written, and is given back when that is sent. For each such block malloc maps
+ * memory or trims its heap, and the kernel clears the pages again: half of what a streamed message of 64 bytes takes. So one
+ * block of each of these sizes is spared for the ring that grows next, of whichever connection: 254 KiB at most. */
+#define LEAST_SPARE 2048u
+#define SPARES 7u
+static _Atomic(void *) spares[SPARES];
 
 static uint8_t nowhere;
 
@@ -15,6 +27,28 @@ static struct limekeel_memory memory_at(void *at)
 {
     struct limekeel_memory memory = {at != NULL, at != NULL ? (uint8_t *)at : &nowhere};
     return memory;
+}
+
+/* How many bytes a block has, or 0 where malloc does not tell: then none is spared. */
+static size_t size_of(uint8_t *at)
+{
+#ifdef __linux__
+    return malloc_usable_size(at);
+#else
+    (void)at;
+    return 0;
+#endif
+}
+
+/* The place among the spares of blocks of this size, or SPARES if they have none. malloc gives some bytes more. */
+static size_t place_of(size_t size)
+{
+    if (size < LEAST_SPARE)
+        return SPARES;
+    size_t place = 0;
+    while (place < SPARES && size - ((size_t)LEAST_SPARE << place) > (size_t)LEAST_SPARE << place >> 4)
+        place++;
+    return place;
 }
 
 WEAK struct limekeel_memory limekeel_alloc(size_t size, size_t align)
@@ -25,9 +59,18 @@ WEAK struct limekeel_memory limekeel_alloc(size_t size, size_t align)
 
 WEAK struct limekeel_memory limekeel_realloc(uint8_t *at, size_t kept, size_t size, size_t align)
 {
-    (void)kept;
     (void)align;
-    return memory_at(realloc(at, size > 0 ? size : 1));
+    size_t had = size_of(at), place = place_of(had), wanted = place_of(size);
+    void *to = NULL;
+    if (had > 0 && had < size && wanted < SPARES)
+        to = atomic_exchange(&spares[wanted], NULL);
+    else if (had > size && place < SPARES)
+        to = malloc(size > 0 ? size : 1);
+    if (to == NULL)
+        return memory_at(realloc(at, size > 0 ? size : 1));
+    memcpy(to, at, kept);
+    free(place < SPARES ? atomic_exchange(&spares[place], (void *)at) : at);
+    return memory_at(to);
 }
 
 WEAK void limekeel_dealloc(uint8_t *at)
