@@ -15,10 +15,11 @@
 #define WEAK __attribute__((weak))
 
 /* A ring of entries doubles while a burst is written, and is given back when that is sent. For each such block malloc maps
- * memory or trims its heap, and the kernel clears the pages again: half of what a streamed message of 64 bytes takes. So one
- * block of each of these sizes is spared for the ring that grows next, of whichever connection: 254 KiB at most. */
-#define LEAST_SPARE 2048u
-#define SPARES 7u
+ * memory or trims its heap, and the kernel clears the pages again: up to half of what a streamed message of 64 bytes takes. And
+ * from 1 KiB on it first joins all small blocks that are free, which are cut again. So one block of each of these sizes is
+ * spared for the ring that grows next, of whichever connection: 255 KiB at most. */
+#define LEAST_SPARE 1024u
+#define SPARES 8u
 static _Atomic(void *) spares[SPARES];
 
 static uint8_t nowhere;

@@ -113,7 +113,9 @@ bool queue_shared_begin(const uint8_t *bytes, uint32_t size)
 
 enum written queue_shared_write(struct queue *queue)
 {
-    return was_written(queue, limekeel_budgeted_write_block(&queue->connection, &block));
+    enum written written = was_written(queue, limekeel_budgeted_write_block(&queue->connection, &block));
+    limekeel_budgeted_ask_ahead(&queue->connection);
+    return written;
 }
 
 void queue_shared_end(void)

@@ -36,7 +36,7 @@ static struct limekeel_memory resized(struct limekeel_memory block, size_t kept,
 /* What one ring gives back, the next one that needs as much gets, with its own bytes. */
 static void is_spared(void)
 {
-    for (size_t size = 2048; size <= 131072; size *= 2) {
+    for (size_t size = 1024; size <= 131072; size *= 2) {
         struct limekeel_memory ring = resized(limekeel_alloc(size / 2, 16), 0, size);
         uint8_t *given_back = ring.at;
         memset(ring.at, 1, size);
