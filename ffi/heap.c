@@ -41,15 +41,21 @@ static size_t size_of(uint8_t *at)
 #endif
 }
 
-/* The place among the spares of blocks of this size, or SPARES if they have none. malloc gives some bytes more. */
-static size_t place_of(size_t size)
+/* The place among the spares of a block that has so many bytes, or SPARES if it has none. malloc gives some bytes more than it
+ * was asked for, so a spare has at least those of its place, and no more can be asked of it. */
+static size_t place_of(size_t had)
 {
-    if (size < LEAST_SPARE)
-        return SPARES;
-    size_t place = 0;
-    while (place < SPARES && size - ((size_t)LEAST_SPARE << place) > (size_t)LEAST_SPARE << place >> 4)
-        place++;
+    size_t place = 0, bytes = LEAST_SPARE;
+    while (place < SPARES && (had < bytes || had - bytes > bytes / 16))
+        place++, bytes *= 2;
     return place;
+}
+
+/* The place of the spares that have exactly so many bytes, or SPARES. */
+static size_t place_for(size_t size)
+{
+    size_t place = place_of(size);
+    return place < SPARES && size == (size_t)LEAST_SPARE << place ? place : SPARES;
 }
 
 WEAK struct limekeel_memory limekeel_alloc(size_t size, size_t align)
@@ -61,7 +67,7 @@ WEAK struct limekeel_memory limekeel_alloc(size_t size, size_t align)
 WEAK struct limekeel_memory limekeel_realloc(uint8_t *at, size_t kept, size_t size, size_t align)
 {
     (void)align;
-    size_t had = size_of(at), place = place_of(had), wanted = place_of(size);
+    size_t had = size_of(at), place = place_of(had), wanted = place_for(size);
     void *to = NULL;
     if (had > 0 && had < size && wanted < SPARES)
         to = atomic_exchange(&spares[wanted], NULL);

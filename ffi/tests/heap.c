@@ -58,6 +58,47 @@ static void is_spared(void)
     }
 }
 
+/* A ring that needs a little more than a spare has gets other memory. */
+static void is_large_enough(void)
+{
+    for (size_t size = 1024; size <= 131072; size *= 2) {
+        for (size_t more = 1; more <= size / 8; more += more < 64 ? 1 : size / 64) {
+            struct limekeel_memory spare = resized(limekeel_alloc(512, 16), 0, size);
+            spare = resized(spare, 0, 512);
+            struct limekeel_memory ring = resized(limekeel_alloc(512, 16), 0, size + more);
+            memset(ring.at, 4, size + more);
+            limekeel_dealloc(ring.at);
+            limekeel_dealloc(spare.at);
+        }
+    }
+}
+
+#define RINGS 8
+
+/* Rings of all sizes grow and shrink as they like, and each keeps its own bytes. */
+static void keeps_its_bytes(void)
+{
+    struct limekeel_memory rings[RINGS];
+    size_t sizes[RINGS];
+    uint64_t random = 1;
+    for (size_t at = 0; at < RINGS; at++) {
+        rings[at] = limekeel_alloc(sizes[at] = 512, 16);
+        memset(rings[at].at, (int)at, 512);
+    }
+    for (int turn = 0; turn < 50000; turn++) {
+        random = random * 6364136223846793005u + 1442695040888963407u;
+        size_t at = random >> 61, size = (((random >> 33) % 2200 + 1) * 64 >> ((random >> 50) & 6)) + 64;
+        size_t kept = size < sizes[at] ? size : sizes[at];
+        rings[at] = resized(rings[at], kept, size);
+        expect("its first byte stays", rings[at].at[0] == at);
+        expect("and its last one", rings[at].at[kept - 1] == at);
+        memset(rings[at].at, (int)at, size);
+        sizes[at] = size;
+    }
+    for (size_t at = 0; at < RINGS; at++)
+        limekeel_dealloc(rings[at].at);
+}
+
 static void *moves(void *own)
 {
     uint8_t mark = *(uint8_t *)own;
@@ -89,6 +130,8 @@ static void is_of_one_thread(void)
 int main(void)
 {
     is_spared();
+    is_large_enough();
+    keeps_its_bytes();
     is_of_one_thread();
     struct limekeel_memory block = limekeel_alloc(100, 8);
     expect("a block is given", block.given && (uintptr_t)block.at % 4 == 0);
