@@ -17,7 +17,7 @@
 /* A ring of entries doubles while a burst is written, and is given back when that is sent. For each such block malloc maps
  * memory or trims its heap, and the kernel clears the pages again: up to half of what a streamed message of 64 bytes takes. And
  * from 1 KiB on it first joins all small blocks that are free, which are cut again. So one block of each of these sizes is
- * spared for the ring that grows next, of whichever connection: 255 KiB at most. */
+ * spared for the ring that grows next, of whichever connection: 271 KiB at most, since malloc may give a sixteenth more. */
 #define LEAST_SPARE 1024u
 #define SPARES 8u
 static _Atomic(void *) spares[SPARES];
@@ -41,8 +41,8 @@ static size_t size_of(uint8_t *at)
 #endif
 }
 
-/* The place among the spares of a block that has so many bytes, or SPARES if it has none. malloc gives some bytes more than it
- * was asked for, so a spare has at least those of its place, and no more can be asked of it. */
+/* The place among the spares of a block that has so many bytes, or SPARES if it has none. A spare has the bytes of its place and
+ * perhaps some more, so no more than those can be asked of it. */
 static size_t place_of(size_t had)
 {
     size_t place = 0, bytes = LEAST_SPARE;
