@@ -1,6 +1,6 @@
 /*
  * Once it was noted, the first word behind the handle of each kind of connection says where its newest message lies: nowhere
- * before the first write, and an entry further with each message. By it limekeel_ask_ahead asks for the memory of the next ones.
+ * before the first write, and an entry further with each message, but for the first of a segment. By it limekeel_ask_ahead asks for the memory of the next ones.
  */
 #include <stdio.h>
 #include <stdlib.h>
@@ -8,6 +8,8 @@
 #include "limekeel.h"
 
 #define ENTRY 64 /* bytes of an entry */
+#define SEGMENT 64 /* entries of a segment */
+#define GROWTHS 3 /* of a ring that takes in so many */
 #define MANY 1000
 
 static void expect(const char *what, bool holds)
@@ -49,7 +51,8 @@ static void of_a_connection(void)
         expect("more", write_one(&connection) == LIMEKEEL_OK);
         moves += newest(connection.at) != last + ENTRY;
     }
-    expect("a ring that grows moves, and else each lies behind the one before", moves > 0 && moves < 10);
+    expect("each segment lies elsewhere, a ring that grows may move, and else each lies behind the one before",
+           moves >= MANY / SEGMENT && moves <= MANY / SEGMENT + GROWTHS);
     expect("it is freed", limekeel_free(&connection) == LIMEKEEL_OK);
 }
 

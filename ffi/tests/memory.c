@@ -10,7 +10,7 @@
 #include "limekeel.h"
 
 #define OVER 16 /* before each block stands how long it is */
-#define IDLE 120
+#define IDLE 168
 #define BURST (IDLE + 4096) /* with the ring of 64 entries that is kept after a burst */
 #define MANY 100000
 

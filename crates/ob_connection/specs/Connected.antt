@@ -81,19 +81,19 @@ StandsForSome connection = (commands : List Command) × StandsFor connection com
 abbrev pub Gives : {A : Type 0} → Connected → (Settings → List Command → A) → A → Type 0
 Gives connection after value = GivesBy (StandsFor connection) connection.unsent.settings after value
 
--- for how many messages the ring of a connection has room
+-- how many messages may wait in a connection before memory is taken for one more
 abbrev pub room_in : Connected → ℕ
 room_in connection = connection.unsent.room
 
--- a connection whose ring has another room, and is the same otherwise
+-- a connection that has another room, and is the same otherwise
 abbrev pub roomed : ℕ → Connected → Connected
 roomed room connection = record connection { unsent = record connection.unsent { room = room } }
 
--- the ring has room for as many as before
+-- there is room for as many as before
 abbrev pub KeepsRoom : Connected → Connected → Type 0
 KeepsRoom old new = room_in new ≡ room_in old
 
--- the ring has room for no more than before
+-- there is room for no more than before
 abbrev pub TakesNoRoom : Connected → Connected → Type 0
 TakesNoRoom old new = room_in new ≤ room_in old
 

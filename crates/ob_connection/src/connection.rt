@@ -28,11 +28,11 @@ use std::marker::Model;
 /// Each call returns what the call of an `ob_seq::Buffer` returns, but for the limit on writes: ids are 64 bits, so
 /// 2^64 - 1 writes are accepted.
 ///
-/// Only a write can run out of memory, and what is gone takes none. What waits takes one ring of entries of 64 bytes,
-/// beside the memory of the blocks. A connection with nothing written has no ring. After each removal and each failing
-/// a ring with room for more than 8 entries has room for fewer than four times as many as wait, or for 8; a close
-/// gives it all back. If the allocator refuses the smaller ring, the connection keeps the one that it has until the
-/// next removal.
+/// Only a write can run out of memory, and what is gone takes none. What waits takes entries of 64 bytes, beside the memory
+/// of the messages. While few wait they lie in one ring, and once 64 wait in segments of 64, each of which is freed when its last
+/// entry is gone. A connection with nothing written has neither. After each removal and each failing a ring in which all lie,
+/// and with room for more than 8, has room for fewer than four times as many as wait, or for 8; a close gives it all back. If
+/// the allocator refuses the smaller ring, the connection keeps the one that it has until the next removal.
 #[repr(C)]
 #[derive(Debug, Drop)]
 pub struct Connection {

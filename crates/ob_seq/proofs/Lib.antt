@@ -1,4 +1,5 @@
 pub mod Inside
+pub mod Laid
 pub mod Rows
 pub mod Simulating
 pub mod UserBits

@@ -7,7 +7,6 @@ pub use Rattle.std.specs.Int.{bit_at}
 pub use Rattle.std.specs.List.{AllByRecursion, range_with_len, cons_option, position_or_len}
 pub use Rattle.std.specs.Prelude.{fold, Some, None, is_ok, Option, slice_set, filter, if◌then◌else◌, sum_by, is_some}
 pub use Rattle.std.specs.Prelude.{◌↔◌, filter_map, slice_get, unwrap_or, count_by}
-pub use Rattle.std.specs.VecDeque.Iter.{deque_iter_rest}
 pub use Rattle.std.proofs.Math.Pow.{pow-lt}
 pub use Rattle.std.proofs.Math.Seq.{get_or-append_seam, set-append_seam}
 pub use Rattle.std.proofs.lemmas.Bool.Decides.{nat_tests}

@@ -1,7 +1,6 @@
 -- How what waits to be sent is kept. No public clause cites this module.
 use Rattle.std.specs.List.{list_all}
-use Rattle.std.specs.Prelude.{◌≡◌, ◌≤◌, ℕ, Bool, true, false, not, List, sum_by, take, drop}
-use Rattle.std.specs.VecDeque.{deque_capacity, deque_len}
+use Rattle.std.specs.Prelude.{◌≡◌, ◌≤◌, ℕ, Bool, true, false, not, List, length, sum_by, take, drop}
 use Rattle.ob_types.specs.Limits.{greatest_overhead, greatest_unknown}
 use Rattle.ob_seq.specs.Unsent.{Unsent}
 use Rattle.ob_seq.specs.declared.entry.Entry.{Entry}
@@ -25,13 +24,13 @@ unsent_of inside = record {
   unflushed = drop inside.flushed inside.entries.items;
   word = inside.word;
   closed = inside.closed;
-  room = deque_capacity inside.entries;
+  room = inside.entries.room;
 }
 
 -- what every call keeps: the line is within the entries, the numbers fit, the running total is the sum of the pending
 -- sizes of the entries, and if no flag says else no entry behind the line was taken back
 pub record IsSound (inside : Inside) : Type 0 where
-  pub line_within : inside.flushed ≤ deque_len inside.entries
+  pub line_within : inside.flushed ≤ length inside.entries.items
   pub total : inside.total ≡ counted inside.entries.items
   pub small_overhead : inside.estimate.overhead ≤ greatest_overhead
   pub small_unknown : inside.estimate.unknown ≤ greatest_unknown

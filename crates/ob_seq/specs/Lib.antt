@@ -2,6 +2,8 @@ pub mod Answer
 pub mod Effect
 pub mod Inside
 pub mod Kept
+pub mod Laid
+pub mod Lent
 pub mod Looks
 pub mod Outcomes
 pub mod Pending
@@ -9,5 +11,6 @@ pub mod Rows
 pub mod State
 pub mod Steps
 pub mod Unsent
+pub mod Walked
 pub mod Worked
 pub mod WorkedState

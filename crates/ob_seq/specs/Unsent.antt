@@ -1,5 +1,5 @@
--- What waits to be sent, each message with its promise, and for how many messages the ring has room.
-use Rattle.std.specs.Prelude.{ℕ, ◌+◌, Bool, false, List, [], ◌++◌, length, map, if◌then◌else◌, ◌≡◌, ◌≤◌, true, max}
+-- What waits to be sent, each message with its promise, and for how many messages there is room.
+use Rattle.std.specs.Prelude.{ℕ, ◌+◌, Bool, false, List, [], ◌++◌, length, map, if◌then◌else◌, ◌≡◌, ◌≤◌, true, max, min}
 use Rattle.std.specs.Prelude.{nat_lt}
 use Rattle.ob_types.specs.Marks.{Marks}
 use Rattle.ob_types.specs.declared.promise.Outcome.{Outcome}
@@ -12,7 +12,8 @@ use Rattle.ob_seq.specs.Rows.{Settings}
 use Rattle.ob_seq.specs.declared.entry.Entry.{Entry}
 
 -- what was opened, the marks in force, the entries in line and those that no flush has reached, each oldest first and
--- with whether its promise was taken back, the word, whether it is closed, and for how many entries the ring has room
+-- with whether its promise was taken back, the word, whether it is closed, and how many entries there may be before memory is
+-- taken for one more
 pub record Unsent : Type 0 where
   pub settings : Settings
   pub marks : Marks
@@ -22,7 +23,7 @@ pub record Unsent : Type 0 where
   pub closed : Bool
   pub room : ℕ
 
--- nothing, as after the opening, and no ring
+-- nothing, as after the opening, and no room
 abbrev pub nothing_unsent : Settings → Unsent
 nothing_unsent settings = record {
   settings = settings;
@@ -84,26 +85,26 @@ whole gone unsent = record {
 abbrev pub ended : Outcome → Entry → Outcome
 ended outcome entry = if entry.taken_back then Cancelled else outcome
 
--- whether the ring has a place to spare
+-- whether a place is to spare
 abbrev pub spares : Unsent → Bool
 spares unsent = nat_lt (waiting_count unsent) unsent.room
 
--- the room of a ring for one more than these, if it had room for *n*: as much if one place is to spare, and else
--- for as many again, and for 8 more at least
+-- the room for one more than these, if there was room for *n*: as much if one place is to spare, and else for as many
+-- again, but for 8 more at least and for 64 more at most
 abbrev pub grown_room : ℕ → ℕ → ℕ
-grown_room count room = if nat_lt count room then room else count + max 8 count
+grown_room count room = if nat_lt count room then room else count + max 8 (min 64 count)
 
 -- for how many messages it has room once it takes in one more
 abbrev pub room_for_one_more : Unsent → ℕ
 room_for_one_more unsent = grown_room (waiting_count unsent) unsent.room
 
--- all is as it was, but the ring may have less room, and it has none if it is closed and nothing waits
+-- all is as it was, but there may be less room, and there is none if it is closed and nothing waits
 pub record GivesBack (old new : Unsent) : Type 0 where
   pub same : new ≡ record old { room = new.room }
   pub less : new.room ≤ old.room
   pub closed : old.closed ≡ true → waiting_count old ≡ 0 → new.room ≡ 0
 
--- all is as it was, but the ring may have less room, and it has none if nothing waits
+-- all is as it was, but there may be less room, and there is none if nothing waits
 pub record Shrinks (old new : Unsent) : Type 0 where
   pub same : new ≡ record old { room = new.room }
   pub less : new.room ≤ old.room

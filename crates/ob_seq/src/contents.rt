@@ -17,12 +17,11 @@ mod take;
 pub(crate) mod word;
 mod write;
 
-use crate::entry::Entry;
+use crate::entries::Entries;
 use crate::newest::Newest;
 pub use cut::Cut;
 use ob_types::{Estimate, WaterMark};
 use std::alloc::Global;
-use std::collections::VecDeque;
 use std::marker::Model;
 pub use take::Front;
 
@@ -32,7 +31,7 @@ pub use take::Front;
 ///
 /// No call goes over entries that it neither takes away, voids nor hands out, but for the one where it ends: the bytes
 /// that are pending are kept as they change, a flush moves the end of the line behind the last entry, and a removal
-/// takes the first of them off the ring. A flush looks at each entry that it reaches only if one of them may be voided.
+/// takes the first of them away. A flush looks at each entry that it reaches only if one of them may be voided.
 ///
 /// ```text
 ///   taken away       in line: flushed             no flush has reached these
@@ -43,7 +42,7 @@ pub use take::Front;
 ///                    (Netty's `flushedEntry`)
 /// ```
 ///
-/// The ring has no gap: a voided entry stays in line, as an empty block that counts nothing, until it is taken away.
+/// There is no gap: a voided entry stays in line, as an empty block that counts nothing, until it is taken away.
 #[repr(C)]
 #[derive(Debug, Drop)]
 pub struct Contents {
@@ -55,7 +54,7 @@ pub struct Contents {
     marks: WaterMark,
     estimate: Estimate,
     /// What stands in line, and behind it what no flush has reached, each oldest first.
-    entries: VecDeque<Entry>,
+    entries: Entries,
     /// How many of the entries stand in line.
     flushed: usize,
     /// The bytes that the entries count together.
@@ -81,9 +80,7 @@ impl Contents {
         requires unknown { estimate.unknown ≤ greatest_unknown }
         ensures { result ≡ nothing_unsent (record { marks = marks; estimate = estimate }) }
     {
-        let mut entries = VecDeque::new(alloc);
-        // It has none, and a contract can say so only of a shrunk one.
-        entries.shrink_to_fit();
+        let entries = Entries::new(alloc);
         Contents {
             newest: Newest::of(&entries),
             opened: marks,
@@ -119,11 +116,11 @@ impl Contents {
         self.entries.len()
     }
 
-    /// For how many entries the ring has room.
+    /// For how many entries there is room.
     pub fn room(&self) -> usize
         ensures { result ≡ self.now.room }
     {
-        self.entries.capacity()
+        self.entries.room()
     }
 
     /// The bytes that are pending.

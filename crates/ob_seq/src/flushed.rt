@@ -1,12 +1,10 @@
 ghost use Rattle.std.specs.Prelude.{◌≡◌};
 ghost use Rattle.std.specs.Iterator.{YieldsFirstRef, item_count};
-ghost use Rattle.std.specs.VecDeque.Iter.{deque_iter_rest};
 ghost use Rattle.ob_seq.specs.Looks.{messages_to_send};
 ghost use Rattle.ob_seq.specs.Unsent.{pending_entries};
 
-use crate::entry::Entry;
+use crate::walk::Walk;
 use ob_types::Message;
-use std::collections::vec_deque::Iter;
 use std::iter::FusedIterator;
 use std::marker::Model;
 
@@ -15,7 +13,7 @@ use std::marker::Model;
 #[derive(Drop)]
 pub struct Flushed<'a> {
     /// What stands in line behind the messages that were handed out.
-    entries: Iter<'a, Entry>,
+    entries: Walk<'a>,
 }
 
 impl<'a> Model for Flushed<'a> {
@@ -24,17 +22,16 @@ impl<'a> Model for Flushed<'a> {
 
     ghost Value = { List Message };
 
-    ghost use Rattle.std.specs.VecDeque.Iter.{deque_iter_rest};
     ghost use Rattle.ob_seq.specs.Looks.{messages_to_send};
     ghost use Rattle.ob_seq.specs.Unsent.{pending_entries};
 
-    ghost view = { λ flushed. messages_to_send (pending_entries (deque_iter_rest flushed.entries)) };
+    ghost view = { λ flushed. messages_to_send (pending_entries flushed.entries) };
 }
 
 impl<'a> Flushed<'a> {
     /// The messages of these entries.
-    pub(crate) fn new(entries: Iter<'a, Entry>) -> Flushed<'a>
-        ensures { result ≡ messages_to_send (pending_entries (deque_iter_rest entries.entry)) }
+    pub(crate) fn new(entries: Walk<'a>) -> Flushed<'a>
+        ensures { result ≡ messages_to_send (pending_entries entries.entry) }
     {
         Flushed { entries }
     }

@@ -3,12 +3,14 @@
 
 mod buffer;
 mod contents;
+mod entries;
 mod entry;
 mod flushed;
 mod laws;
 mod look;
 mod newest;
 mod outcomes;
+mod walk;
 mod worked;
 
 pub use buffer::Buffer;

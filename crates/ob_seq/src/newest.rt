@@ -1,7 +1,7 @@
 //! Where the newest entry lies.
 
+use crate::entries::Entries;
 use crate::entry::Entry;
-use std::collections::VecDeque;
 use std::fmt::{Debug, Error, Formatter, Write};
 use std::ptr::{from_ref, null};
 
@@ -19,8 +19,8 @@ unsafe impl Send for Newest {}
 impl Newest {
     /// That of these.
     #[inline(always)]
-    pub(crate) fn of(entries: &VecDeque<Entry>) -> Newest {
-        let at = match entries.back() {
+    pub(crate) fn of(entries: &Entries) -> Newest {
+        let at = match entries.newest() {
             Some(entry) => from_ref(entry),
             None => null(),
         };

@@ -19,7 +19,7 @@ use ob_types::{Cause, Change, Message, Outcome, Refusal, WaterMark};
 
 impl Connection {
     /// Adds a message behind all others (Netty's `addMessage`), and returns its promise: ids rise by one from 0. It
-    /// takes the same few steps whatever is pending; a growth of the ring is shared among the writes that filled it.
+    /// takes the same few steps whatever is pending; a growth of the room is shared among the writes that filled it.
     ///
     /// `Closed` comes if the connection is closed, then `Oversize` if the message counts more than 2147483647 bytes or is
     /// a region longer than 9223372036854775807, then `TooMuch` if more than 4294967295 bytes would be pending or 2^64 - 1

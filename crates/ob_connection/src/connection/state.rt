@@ -59,9 +59,9 @@ impl Connection {
         self.contents.count() as u64
     }
 
-    /// For how many messages its ring has room. A message takes one place of 64 bytes as long as it waits. A write takes
-    /// memory for the ring only if no place is left, and then for as many again, and for 8 more at least. It does not
-    /// allocate. Our own; Rust's `capacity`.
+    /// How many messages may wait before memory is taken for one more. A message takes one place of 64 bytes as long as it
+    /// waits. A write takes memory for places only if none is left, and then for as many again, but for 8 more at least and for
+    /// 64 more at most. It does not allocate. Our own; Rust's `capacity`.
     pub fn room(&self) -> usize
         ensures { result ≡ room_in self.now }
     {

@@ -1,10 +1,10 @@
 -- Entries, as the code keeps them and as contracts see them, and what the fields say of what waits.
-use Rattle.std.proofs.lemmas.List.{get_or-map, drop_more, get_or-take, length-drop, length-take}
+use Rattle.std.proofs.lemmas.List.{get_or-map, get_or-take, length-drop, length-take}
 use Rattle.ob_seq.proofs.Words.{[], ◌≡◌, ℕ, ◌+◌, ◌<◌, List, ◌∷◌, length, map, take, drop, get_or, refl, sym, ap, ◌∙◌}
 use Rattle.ob_seq.proofs.Words.{sum_by, take-append-drop, sum_by-append, sum_by-cons, Entry, PendingEntry}
 use Rattle.ob_seq.proofs.Words.{pending_entry, true, false, none_taken_back, arith, pending_entries, counted, Outcome}
-use Rattle.ob_seq.proofs.Words.{Unsent, whole, pending_total, length-map, ◌-◌, ◌≤◌, Block, Inside, blocks_left, IsSound}
-use Rattle.ob_seq.proofs.Words.{drop_all, unsent_of, waiting_count, take-map}
+use Rattle.ob_seq.proofs.Words.{Unsent, whole, pending_total, ◌-◌, Block, Inside, blocks_left, IsSound}
+use Rattle.ob_seq.proofs.Words.{unsent_of, waiting_count, take-map}
 use Rattle.ob_seq.proofs.Inside.Gathered.{left_from_block, left_from_other}
 
 -- what is counted of entries as contracts see them is counted of them as the code keeps them
@@ -41,12 +41,12 @@ module _ (entry : Entry) (entries : List Entry) (none : none_taken_back (entry �
 module _ (held : Unsent) (inside : Inside) (view : unsent_of inside ≡ held) (sound : IsSound inside) where
   -- as many stand in line as the cursor says, and as many behind it as there are more
   pub line_count : length held.line ≡ inside.flushed
-  line_count = rw (← view, length-take) (omega (arith, sound.line_within, inside.entries.ok))
+  line_count = rw (← view, length-take) (omega (arith, sound.line_within))
 
-  pub unflushed_count : length held.unflushed ≡ inside.entries.len - inside.flushed
-  unflushed_count = rw (← view, length-drop, inside.entries.ok.0)
+  pub unflushed_count : length held.unflushed ≡ length inside.entries.items - inside.flushed
+  unflushed_count = rw (← view, length-drop)
 
-  pub entry_count : waiting_count held ≡ inside.entries.len
+  pub entry_count : waiting_count held ≡ length inside.entries.items
   entry_count = omega (arith, line_count, unflushed_count, sound.line_within)
 
   -- the total that is kept is that of what is held
@@ -63,30 +63,14 @@ module _ (held : Unsent) (inside : Inside) (view : unsent_of inside ≡ held) (s
       pending_entry entry ≡ get_or (pending_entries held.line) place (pending_entry entry)
   in_line place entry before is = grind (arith, line_is, get_or-take, entry_at)
 
--- what stands in line from that place on
-module _ {held : Unsent} {inside : Inside} (view : unsent_of inside ≡ held) (sound : IsSound inside) {place : ℕ}
-    {entry : Entry} (before : place < inside.flushed) (is : entry ≡ get_or inside.entries.items place entry) where
-  pub line_from :
-      drop place (pending_entries held.line) ≡ pending_entry entry ∷ drop (place + 1) (pending_entries held.line)
-  line_from =
-      let inner : place < length (pending_entries held.line) =
-      rw (length-map) (omega (arith, line_count held inside view sound)) in
-      rw (← in_line held inside view sound place entry before is)
-      at (drop_more (pending_entries held.line) place (pending_entry entry) inner)
+-- what entries leave to be sent, one behind the other
+abbrev pub left_of : List Entry → List (List ℕ)
+left_of entries = blocks_left (pending_entries entries)
 
-  -- what is left from a block on, and from another message on
-  pub left_at_block : {bytes : List ℕ} → entry.message ≡ Block bytes →
-      blocks_left (drop place (pending_entries held.line))
-      ≡ bytes ∷ blocks_left (drop (place + 1) (pending_entries held.line))
-  left_at_block block =
-      rw line_from (left_from_block (pending_entry entry) (drop (place + 1) (pending_entries held.line)) block)
+-- a block in front, and another message in front
+module _ {entries rest : List Entry} {entry : Entry} (is : entries ≡ entry ∷ rest) where
+  pub left_at_block : {bytes : List ℕ} → entry.message ≡ Block bytes → left_of entries ≡ bytes ∷ left_of rest
+  left_at_block block = ap left_of is ∙ left_from_block (pending_entry entry) (pending_entries rest) block
 
-  pub left_at_other : ((bytes : List ℕ) → entry.message ≡ Block bytes → ⊥) →
-      blocks_left (drop place (pending_entries held.line)) ≡ []
-  left_at_other other =
-      rw line_from (left_from_other (pending_entry entry) (drop (place + 1) (pending_entries held.line)) other)
-
--- and at the end
-pub left_at_end : {held : Unsent} {inside : Inside} {place : ℕ} → unsent_of inside ≡ held → IsSound inside →
-    inside.flushed ≤ place → blocks_left (drop place (pending_entries held.line)) ≡ []
-left_at_end {held} {inside} {place} view sound past = grind (arith, length-map, line_count, drop_all)
+  pub left_at_other : ((bytes : List ℕ) → entry.message ≡ Block bytes → ⊥) → left_of entries ≡ []
+  left_at_other other = ap left_of is ∙ left_from_other (pending_entry entry) (pending_entries rest) other

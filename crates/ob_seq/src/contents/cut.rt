@@ -4,6 +4,7 @@ ghost use Rattle.ob_seq.specs.Steps.Commands.{cut_of, first_length};
 ghost use Rattle.ob_seq.specs.Unsent.{pending_entries};
 
 use crate::contents::Contents;
+use crate::walk::Walk;
 use ob_types::Message;
 
 /// Where a removal of bytes ends.
@@ -25,7 +26,7 @@ impl Contents {
     {
         let mut whole = 0;
         let mut rest = n;
-        for entry in self.entries.range(..self.flushed) {
+        for entry in Walk::over(&self.entries, self.flushed) {
             let Message::Block(bytes) = &entry.message else {
                 break;
             };

@@ -61,8 +61,8 @@ impl Contents {
         ensures after { (gone : List Outcome) → whole gone self.new ≡ next_flushed (whole gone self.old) }
         ensures room { self.new.room ≡ self.old.room }
     {
-        if self.entries[self.flushed].taken_back {
-            let size = void(&mut self.entries[self.flushed]);
+        if self.entries.at(self.flushed).taken_back {
+            let size = void(self.entries.at_mut(self.flushed));
             self.total -= size;
             self.word = word::after_fall(self.marks, self.word, size, self.total);
         }

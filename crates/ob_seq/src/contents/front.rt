@@ -23,7 +23,7 @@ impl Contents {
         if self.flushed == 0 {
             return 0;
         }
-        self.entries[0].progress
+        self.entries.at(0).progress
     }
 
     /// Adds *n* bytes to the progress of the front.
@@ -62,7 +62,7 @@ impl Contents {
         ensures as_many { waiting_count self.new ≡ waiting_count self.old }
         ensures room { self.new.room ≡ self.old.room }
     {
-        tell(&mut self.entries[0], n);
+        tell(self.entries.at_mut(0), n);
     }
 
     /// Skips *n* bytes of the front; 0 of them need no front.
@@ -72,7 +72,7 @@ impl Contents {
         ensures room { self.new.room ≡ self.old.room }
     {
         if n > 0 {
-            skip(&mut self.entries[0], n);
+            skip(self.entries.at_mut(0), n);
         }
     }
 }

@@ -3,6 +3,7 @@ ghost use Rattle.ob_seq.specs.Looks.{blocks_left, first_blocks, with_bytes};
 ghost use Rattle.ob_seq.specs.Unsent.{pending_entries};
 
 use crate::contents::Contents;
+use crate::walk::Walk;
 use bytes::Bytes;
 use ob_types::{Message, Refusal};
 use std::alloc::AllocError;
@@ -21,8 +22,8 @@ impl Contents {
     {
         let mut gathered = Vec::new(*self.entries.allocator());
         let mut room = u64::from(max_bytes);
-        for place in 0..self.flushed {
-            let Message::Block(bytes) = &self.entries[place].message else {
+        for entry in Walk::over(&self.entries, self.flushed) {
+            let Message::Block(bytes) = &entry.message else {
                 break;
             };
             let length = bytes.len() as u64;

@@ -5,6 +5,7 @@ ghost use Rattle.ob_seq.specs.Unsent.{pending_entries};
 
 use crate::contents::Contents;
 use crate::contents::gather::has_room;
+use crate::walk::Walk;
 use ob_types::Message;
 use std::io::IoSlice;
 
@@ -20,8 +21,8 @@ impl Contents {
     {
         let mut count = 0;
         let mut room = u64::from(max_bytes);
-        for place in 0..self.flushed {
-            let Message::Block(bytes) = &self.entries[place].message else {
+        for entry in Walk::over(&self.entries, self.flushed) {
+            let Message::Block(bytes) = &entry.message else {
                 break;
             };
             let length = bytes.len() as u64;

@@ -19,7 +19,7 @@ impl Contents {
         requires { place < waiting_count self.now }
         ensures { (gone : List Outcome) → result ≡ state_at (whole gone self.now) (length gone + place) }
     {
-        if self.entries[place].taken_back {
+        if self.entries.at(place).taken_back {
             return PromiseState::Settled(Outcome::Cancelled);
         }
         if place < self.flushed {
@@ -90,7 +90,7 @@ impl Contents {
             whole gone self.new ≡ promise_set (length gone + place) (Settled Cancelled) (whole gone self.old) }
         ensures room { self.new.room ≡ self.old.room }
     {
-        self.entries[place].taken_back = true;
+        self.entries.at_mut(place).taken_back = true;
         self.any_taken_back = true;
     }
 }

@@ -1,16 +1,14 @@
 //! The looks at what waits.
 
-ghost use Rattle.std.specs.Prelude.{◌≡◌, ◌<◌, ◌≤◌, not, take, count_by, slice_index_or, slice_get, option_map};
+ghost use Rattle.std.specs.Prelude.{◌≡◌, ◌<◌, ◌≤◌, not, length, take, count_by, slice_index_or, slice_get, option_map};
 ghost use Rattle.std.specs.Option.{option_copied};
-ghost use Rattle.std.specs.VecDeque.{deque_len};
 ghost use Rattle.ob_seq.specs.Looks.{PendingEntry, messages_to_send};
 ghost use Rattle.ob_seq.specs.Unsent.{all_entries, pending_entries, waiting_count};
 
 use crate::contents::Contents;
-use crate::entry::Entry;
 use crate::flushed::Flushed;
+use crate::walk::Walk;
 use ob_types::Message;
-use std::collections::VecDeque;
 
 impl Contents {
     /// Whether the promise of the entry at this place was taken back.
@@ -18,7 +16,7 @@ impl Contents {
         requires { place < waiting_count self.now }
         ensures { (other : PendingEntry) → result ≡ (slice_index_or (all_entries self.now) place other).voided }
     {
-        self.entries[place].taken_back
+        self.entries.at(place).taken_back
     }
 
     /// How many of the first `count` promises were not taken back.
@@ -26,7 +24,7 @@ impl Contents {
         requires { count ≤ waiting_count self.now }
         ensures { result ≡ count_by (λ entry. not entry.voided) (take count (all_entries self.now)) }
     {
-        first_not_back(&self.entries, count)
+        not_back(Walk::over(&self.entries, count))
     }
 
     /// What is left of the first entry in line.
@@ -36,24 +34,27 @@ impl Contents {
         if self.flushed == 0 {
             return None;
         }
-        Some(&self.entries[0].message)
+        Some(&self.entries.at(0).message)
     }
 
     /// What is left of each flushed message that was not voided, oldest first.
     pub fn to_send(&self) -> Flushed<'_>
         ensures { result ≡ messages_to_send (pending_entries self.now.line) }
     {
-        Flushed::new(self.entries.range(..self.flushed))
+        Flushed::new(Walk::over(&self.entries, self.flushed))
     }
 }
 
-/// How many of the first `count` entries have a promise that was not taken back.
-fn first_not_back(entries: &VecDeque<Entry>, count: usize) -> usize
-    requires { count ≤ deque_len entries.now }
-    ensures { result ≡ count_by (λ entry. not entry.taken_back) (take count entries.now.items) }
+/// How many of these entries have a promise that was not taken back.
+fn not_back(entries: Walk<'_>) -> usize
+    requires { length entries < 18446744073709551616 }
+    ensures { result ≡ count_by (λ entry. not entry.taken_back) entries.entry }
 {
-    entries
-        .range(..count)
-        .filter(|entry| !entry.taken_back)
-        .count()
+    let mut count = 0;
+    for entry in entries {
+        if !entry.taken_back {
+            count += 1;
+        }
+    }
+    count
 }

@@ -44,7 +44,7 @@ impl Contents {
         ensures fewer { waiting_count self.old ≡ waiting_count self.new + length (front_endings Cancelled result) }
         ensures frugal { ¬ IsErrOf result Refusal.NoMemory }
         ensures refused { OnErr result (self.new ≡ self.old) }
-        ensures room { self.new.room ≡ self.old.room }
+        ensures room { self.new.room ≤ self.old.room }
     {
         if self.closed {
             return Err(Refusal::Closed);
@@ -68,7 +68,7 @@ impl Contents {
         ensures taken { (gone : List AnOutcome) (outcome : AnOutcome) →
             whole (gone ++ (if result then outcome else Cancelled) ∷ []) self.new
             ≡ front_taken notice outcome (whole gone self.old) }
-        ensures room { self.new.room ≡ self.old.room }
+        ensures room { self.new.room ≤ self.old.room }
     {
         let Some(entry) = self.entries.pop_front() else {
             return false;
@@ -116,7 +116,7 @@ impl Contents {
         ensures closed { (gone : List AnOutcome) (cause : Cause) →
             whole (gone ++ map (ended (Failed cause)) self.old.unflushed) self.new
             ≡ closed_pending cause (whole gone self.old) }
-        ensures room { self.new.room ≡ self.old.room }
+        ensures room { self.new.room ≤ self.old.room }
     {
         self.entries.clear();
         self.total = 0;

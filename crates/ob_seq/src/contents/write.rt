@@ -1,7 +1,6 @@
 //! A write is asked for and then made: what a caller adds comes between, so that it can fail before any change.
 
 ghost use Rattle.std.specs.Prelude.{◌≡◌, ◌+◌, ◌<◌, ◌≤◌, max, [], List, IfErr, IfOk, IsOk, OnOk, OnErr, Some, true};
-ghost use Rattle.std.specs.VecDeque.{deque_capacity, deque_len};
 ghost use Rattle.ob_types.specs.Limits.{greatest_total};
 ghost use Rattle.ob_types.specs.Marks.{change_between};
 ghost use Rattle.ob_types.specs.declared.promise.Outcome.{Outcome};
@@ -13,14 +12,9 @@ use crate::contents::{Contents, word};
 use crate::entry::Entry;
 use crate::newest::Newest;
 use ob_types::{Change, Message, Refusal};
-use std::alloc::AllocError;
-use std::collections::VecDeque;
 
 /// The most bytes that may be pending. Our own limit.
 const MAX_TOTAL: u64 = 4294967295;
-
-/// For how many entries more the ring grows at least.
-const LEAST_ROOM: usize = 8;
 
 impl Contents {
     /// What a message of this size counts, or of none, unless a write of it is refused by anything but lack of memory:
@@ -62,7 +56,7 @@ impl Contents {
         ensures spares { spares self.old ≡ true → IsOk result }
         ensures returned { IfErr result (λ returned. returned ≡ message) }
     {
-        let Ok(()) = make_room(&mut self.entries) else {
+        let Ok(()) = self.entries.make_room() else {
             return Err(message);
         };
         self.entries.push_back_reserved(Entry {
@@ -89,35 +83,4 @@ impl Contents {
     {
         self.newest = Newest::of(&self.entries);
     }
-}
-
-/// Makes room for one more entry. If that fails, all is as it was.
-#[inline(always)]
-fn make_room(entries: &mut VecDeque<Entry>) -> Result<(), AllocError>
-    ensures items { entries.new.items ≡ entries.old.items }
-    ensures len { deque_len entries.new ≡ deque_len entries.old }
-    ensures ok { OnOk result (deque_len entries.new < deque_capacity entries.new) }
-    ensures room { OnOk result (deque_capacity entries.new
-        ≡ grown_room (deque_len entries.old) (deque_capacity entries.old)) }
-    ensures err { OnErr result (deque_capacity entries.new ≡ deque_capacity entries.old) }
-    ensures spares { deque_len entries.old < deque_capacity entries.old → IsOk result }
-{
-    if entries.len() < entries.capacity() {
-        return Ok(());
-    }
-    grow(entries)
-}
-
-/// Makes room for as many entries again as there are, and for 8 more at least.
-// It is rare: apart, a write saves no registers for it.
-#[cold]
-#[inline(never)]
-fn grow(entries: &mut VecDeque<Entry>) -> Result<(), AllocError>
-    requires { deque_capacity entries.old ≡ deque_len entries.old }
-    ensures items { entries.new.items ≡ entries.old.items }
-    ensures len { deque_len entries.new ≡ deque_len entries.old }
-    ensures ok { OnOk result (deque_capacity entries.new ≡ deque_len entries.old + max 8 (deque_len entries.old)) }
-    ensures err { OnErr result (deque_capacity entries.new ≡ deque_capacity entries.old) }
-{
-    entries.reserve_exact(entries.len().max(LEAST_ROOM))
 }

@@ -23,7 +23,7 @@ added inside old view sound message size word' gone kept items same more rises =
     let first = inside.entries.items in
     let n = inside.flushed in
     let entry : Entry = record { message = message; progress = 0; size = size; taken_back = false } in
-    let within : n ≤ length first = omega (arith, sound.line_within, inside.entries.ok) in
+    let within : n ≤ length first = omega (arith, sound.line_within) in
     let front = take-append-le n first (entry ∷ []) within in
     let behind = drop-append-le n first (entry ∷ []) within in
     let sum : inside.total ≡ pending_total (whole [] (unsent_of inside)) = total_is (unsent_of inside) inside refl sound in
@@ -35,11 +35,11 @@ added inside old view sound message size word' gone kept items same more rises =
 pub returns-then-not-can_rise-clause-ok : goal.returns-then-not-can_rise-clause-ok
 returns-then-not-can_rise-clause-ok c gone =
     added c.self.inside c.args.self.now c.self.view_is c.self.invariant c.args.message c.args.size c.self.inside.word gone
-    c.make_room.new.entries.items c.push_back_reserved.new.self.items c.in-Ok.ensures.items c.push_back_reserved.ensures.items
+    c.make_room.new.self.items c.push_back_reserved.new.self.items c.in-Ok.ensures.items c.push_back_reserved.ensures.items
     (sym (c.if-not-can_rise.ensures c.args.size refl))
 
 pub returns-clause-ok : goal.returns-clause-ok
 returns-clause-ok c gone =
     added c.self.inside c.args.self.now c.self.view_is c.self.invariant c.args.message c.args.size
-    c.after_rise-self-inside.result gone c.make_room.new.entries.items c.push_back_reserved.new.self.items
+    c.after_rise-self-inside.result gone c.make_room.new.self.items c.push_back_reserved.new.self.items
     c.in-Ok.ensures.items c.push_back_reserved.ensures.items c.after_rise-self-inside.ensures

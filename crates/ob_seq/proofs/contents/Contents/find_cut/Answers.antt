@@ -1,8 +1,7 @@
 use Rattle.ob_seq.proofs.Words.{◌≡◌, ◌≤◌, ◌<◌, ◌+◌, ◌-◌, ◌∷◌, [], ℕ, List, Block, Entry, ap, sym, ◌∙◌, arith, drop, length, nat_tests}
 use Rattle.ob_seq.proofs.Words.{blocks_left, pending_entry, pending_entries}
-use Rattle.std.specs.VecDeque.Iter.{deque_iter_rest}
 use Rattle.std.proofs.Common.{add-one}
-use Rattle.std.proofs.lemmas.List.{drop-drop, drop-map, length-drop, nil_from_length}
+use Rattle.std.proofs.lemmas.List.{drop-drop, drop-map, length-drop}
 use Rattle.ob_seq.proofs.Inside.Gathered.{cut_from, cut_is, left_from_block, left_from_other}
 use Rattle.ob_seq.proofs.contents.Contents.find_cut.Goals.{in-None, in-Some+in_default}
 use Rattle.ob_seq.proofs.contents.Contents.find_cut.Goals as goal
@@ -33,7 +32,7 @@ pub returns-then-left-rest-clause-value : goal.returns-then-left-rest-clause-val
 returns-then-left-rest-clause-value c =
     let at = c.loop-entry in
     let line = c.args.self.now.line in
-    let block = block_there line (deque_iter_rest c.next.new.self) at.whole c.in-Some.entry.now
+    let block = block_there line c.next.new.self at.whole c.in-Some.entry.now
     (sym at.invariant.left ∙ c.in-Some.ensures.steps) c.in-Block.is in
     rw (cut_is c.args.n (left_of line) ∙ at.invariant.so_far ∙ ap (cut_from at.whole at.rest) block)
     (grind (arith, nat_tests, c.len-left.ensures.value, c.if-left-rest.true))
@@ -49,7 +48,7 @@ pub loop-entry-preserved : goal.loop-entry-preserved
 loop-entry-preserved c =
     let at = c.loop-entry in
     let line = c.args.self.now.line in
-    let rest = deque_iter_rest c.next.new.self in
+    let rest = c.next.new.self in
     let entry = c.in-Some.entry.now in
     let is = sym at.invariant.left ∙ c.in-Some.ensures.steps in
     let next = behind line rest at.whole entry is in record {
@@ -66,8 +65,8 @@ returns-clause-value c =
     let line = c.args.self.now.line in
     let ends : left_of (drop at.whole line) ≡ [] = elim c.match-next.branch [
       | in-None w ↦ ap left_of
-          (sym at.invariant.left ∙ nil_from_length (deque_iter_rest at.entry-iterator) w.in-None.ensures.steps.0)
-      | in-Some+in_default w ↦ other_there line (deque_iter_rest c.next.new.self) at.whole w.in-Some.entry.now
+          (sym at.invariant.left ∙ w.in-None.ensures.steps.0)
+      | in-Some+in_default w ↦ other_there line c.next.new.self at.whole w.in-Some.entry.now
           (sym at.invariant.left ∙ w.in-Some.ensures.steps) w.in_default.not-Block
     ] in
     rw (cut_is c.args.n (left_of line) ∙ at.invariant.so_far, ends) (grind (arith, nat_tests, c.then_some.ensures))

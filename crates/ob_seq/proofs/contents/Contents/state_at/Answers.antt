@@ -19,7 +19,7 @@ module _ (gone : List Outcome) {held : Unsent} {inside : Inside} (view : unsent_
   seen = ap (λ (one : Unsent). state_at (whole gone one) (length gone + place)) view
 
   within : place < length inside.entries.items
-  within = omega (arith, entry_count held inside view sound, inside.entries.ok)
+  within = omega (arith, entry_count held inside view sound)
 
   cancelled_there : entry.taken_back ≡ true → Settled Cancelled ≡ state_there
   cancelled_there back =
@@ -36,14 +36,14 @@ module _ (gone : List Outcome) {held : Unsent} {inside : Inside} (view : unsent_
       kept_waits gone settings inside.marks inside.closed inside.entries.items inside.flushed place entry
       inside.word within is behind ∙ seen
 
-pub returns-then-index : goal.returns-then-index
-returns-then-index c gone =
-    cancelled_there gone c.self.view_is c.self.invariant c.requires c.index.ensures c.if-index.true
+pub returns-then-at : goal.returns-then-at
+returns-then-at c gone =
+    cancelled_there gone c.self.view_is c.self.invariant c.requires c.at.ensures.value c.if-at.true
 
 pub returns-then-place-self : goal.returns-then-place-self
 returns-then-place-self c gone = grind (arith, fixed_there)
 
 pub returns-else-place-self : goal.returns-else-place-self
 returns-else-place-self c gone =
-    let state : Waiting ≡ waiting_state c.index.result.now = rw c.if-index.false in
-    state ∙ waits_there gone c.self.view_is c.self.invariant c.requires c.index.ensures c.if-place-self.false
+    let state : Waiting ≡ waiting_state c.at.result.now = rw c.if-at.false in
+    state ∙ waits_there gone c.self.view_is c.self.invariant c.requires c.at.ensures.value c.if-place-self.false

@@ -21,5 +21,5 @@ returns c =
       taken = λ gone. c.skip_in_front.ensures.after (gone ++ map (ended Success) (take cut.whole old.line))
           ∙ ap (front_skipped cut.rest) (c.take_first.ensures.taken gone Success);
       fewer = omega (arith, same, c.take_first.ensures.fewer);
-      room = c.skip_in_front.ensures.room ∙ c.take_first.ensures.room;
+      room = omega (arith, c.skip_in_front.ensures.room, c.take_first.ensures.room);
     }

@@ -33,7 +33,7 @@ loop-preserved c =
       total = omega (arith, sum, sum_by-cons (λ (one : Entry). one.size) entry items);
       taken = λ gone outcome. rw (← c.self.view_is) (more gone outcome (whole gone (unsent_of first)) (rw line_is within)
           (rw (← c.self.view_is, is) at (c.loop.invariant.taken gone outcome)));
-      room = c.in-Some.ensures.capacity ∙ c.loop.invariant.room;
+      room = omega (arith, c.in-Some.ensures.room, c.loop.invariant.room);
     }
 
 pub returns : goal.returns
@@ -49,5 +49,5 @@ returns c =
     let many = length-map (take count old.line) (ended Success) ∙ length-take-le count old.line c.requires in record {
       taken = taken;
       fewer = fewer_waiting c.args.notice Success count (map (ended Success) (take count old.line)) old now many (taken [] Success);
-      room = c.loop.invariant.room ∙ ap (λ (held : Unsent). held.room) c.self.view_is;
+      room = rw (← c.self.view_is) c.loop.invariant.room;
     }

@@ -1,5 +1,4 @@
 use Rattle.ob_seq.proofs.Words.{◌≡◌, ◌≤◌, ◌++◌, ◌-◌, List, map, take, drop, Outcome, Settings, counted, ended, whole, times, front_taken}
-use Rattle.std.specs.VecDeque.{deque_capacity}
 use Rattle.ob_seq.proofs.Inside.LetGo.{word_fallen}
 use Rattle.ob_seq.proofs.Inside.States.{unsent_from}
 use Rattle.ob_seq.proofs.contents.Contents.take_first.Given as goal
@@ -18,5 +17,5 @@ invariant-loop l =
           whole (gone ++ map (ended outcome) (take l.counter l.fn.self.line))
           (unsent_from settings first.marks first.closed (take left inside.entries.items) (drop left inside.entries.items)
           (word_fallen first.marks l.fn.notice first.word first.total l.total)) ≡ times l.counter (front_taken l.fn.notice outcome) (whole gone l.fn.self);
-      room : deque_capacity inside.entries ≡ deque_capacity first.entries;
+      room : inside.entries.room ≤ first.entries.room;
     }

@@ -1,0 +1,293 @@
+-- Segments of entries, one behind the other, and the one in which a place lies.
+use Rattle.std.specs.Prelude.{◌%◌}
+use Rattle.std.specs.VecDeque.{deque_capacity, deque_len}
+use Rattle.std_alloc.specs.declared.vec.deque.VecDeque.{VecDeque}
+use Rattle.std.proofs.Common.{Global}
+use Rattle.std.proofs.Math.Seq.{drop-append-add}
+use Rattle.std.proofs.lemmas.List.{drop-append-le, drop_more, length-drop, length-set, length-take, set-append_left}
+use Rattle.std.proofs.lemmas.List.{set-append_right, take-append-le}
+use Rattle.ob_seq.proofs.Words.{◌≡◌, ◌<◌, ◌≤◌, ◌+◌, ◌-◌, ◌*◌, ◌/◌, ℕ, zero, suc, List, [], ◌∷◌, ◌++◌, length, take, drop, get_or}
+use Rattle.ob_seq.proofs.Words.{slice_set, refl, sym, ap, ◌∙◌, arith, append_assoc, append-nil, length-append, Entry}
+use Rattle.ob_seq.specs.Laid.{AreBehind, AreFull, AreLaid, IsFoundIn, Laid, entries_of, items_of, laid_of, most_segments}
+use Rattle.ob_seq.specs.Laid.{segment_room}
+use Rattle.ob_seq.specs.Lent.{with_entry}
+use Rattle.std.specs.VecDeque.{deque_with_item}
+use Rattle.ob_seq.specs.declared.entries.Entries.TheInside.{Inside}
+
+module _ {Z : Type 0} where
+  -- the entries of some segments and then of another
+  pub entries_behind : (segments : List (VecDeque Entry Z)) (last : VecDeque Entry Z) →
+      entries_of (segments ++ last ∷ []) ≡ entries_of segments ++ last.items
+  entries_behind [] last = append-nil last.items
+  entries_behind (segment ∷ segments) last =
+      rw (entries_behind segments last) (sym (append_assoc segment.items (entries_of segments) last.items))
+
+  -- a full one may follow, and any may that is the first
+  full_behind : (segments : List (VecDeque Entry Z)) (last : VecDeque Entry Z) → AreFull segments →
+      deque_len last ≡ segment_room → AreFull (segments ++ last ∷ [])
+  full_behind [] last full long = (long, tt)
+  full_behind (segment ∷ segments) last full long = (full.0, full_behind segments last full.1 long)
+
+  pub one_behind : (segments : List (VecDeque Entry Z)) (last : VecDeque Entry Z) → AreBehind segments →
+      0 < deque_len last → (0 < length segments → deque_len last ≡ segment_room) → AreBehind (segments ++ last ∷ [])
+  one_behind [] last behind some long = (some, tt)
+  one_behind (segment ∷ segments) last behind some long =
+      (behind.0, full_behind segments last behind.1 (long (omega arith)))
+
+  -- full segments have 64 entries each
+  full_before : (segments : List (VecDeque Entry Z)) (n : ℕ) → AreFull segments → n ≤ length segments →
+      length (entries_of (take n segments)) ≡ n * segment_room
+  full_before segments zero full few = refl
+  full_before [] (suc n) full few = absurd (omega (arith, few))
+  full_before (segment ∷ segments) (suc n) full few =
+      omega (
+        arith,
+        full_before segments n full.1 (omega (arith, few)),
+        full.0,
+        segment.ok,
+        length-append segment.items (entries_of (take n segments)),
+      )
+
+  full_count : (segments : List (VecDeque Entry Z)) → AreFull segments →
+      length (entries_of segments) ≡ length segments * segment_room
+  full_count [] full = refl
+  full_count (segment ∷ segments) full =
+      omega (arith, full_count segments full.1, full.0, segment.ok, length-append segment.items (entries_of segments))
+
+  full_at : (segments : List (VecDeque Entry Z)) (n : ℕ) (segment : VecDeque Entry Z) → AreFull segments →
+      n < length segments → segment ≡ get_or segments n segment → deque_len segment ≡ segment_room
+  full_at [] n segment full some is = absurd (omega (arith, some))
+  full_at (one ∷ segments) zero segment full some is = ap (λ (one : VecDeque Entry Z). deque_len one) is ∙ full.0
+  full_at (one ∷ segments) (suc n) segment full some is =
+      full_at segments n segment full.1 (omega (arith, some)) is
+
+  -- so many entries have the segments at most
+  pub few_entries : (segments : List (VecDeque Entry Z)) → AreBehind segments →
+      length (entries_of segments) < 9223372036854775808 + length segments * segment_room
+  few_entries [] behind = omega arith
+  few_entries (segment ∷ segments) behind =
+      omega (
+        arith,
+        full_count segments behind.1,
+        segment.ok,
+        segment.small,
+        length-append segment.items (entries_of segments),
+      )
+
+  -- a place behind the first segment lies in one of the others
+  pub found_behind : (segments : List (VecDeque Entry Z)) (first : VecDeque Entry Z) (place ahead : ℕ) → AreBehind segments →
+      place < length (entries_of segments) → first ≡ get_or segments 0 first → ahead ≡ deque_len first → ahead ≤ place →
+      IsFoundIn segments place ((place - ahead) / 64 + 1) ((place - ahead) % 64)
+  found_behind [] first place ahead behind there is long past = absurd (omega (arith, there))
+  found_behind (one ∷ segments) first place ahead behind there is long past =
+      let n = (place - ahead) / 64 in
+      let same : ahead ≡ deque_len one = long ∙ ap (λ (one : VecDeque Entry Z). deque_len one) is in
+      let all = full_count segments behind.1 in
+      let count = length-append one.items (entries_of segments) in
+      let within : n < length segments = omega (arith, all, count, there, same, past, one.ok) in
+      let next : n + 1 ≡ suc n = omega arith in
+      let front = full_before segments n behind.1 (omega (arith, within)) in record {
+        within = omega (arith, within);
+        inner = λ segment here.
+            let full = full_at segments n segment behind.1 within
+            (here ∙ ap (λ (k : ℕ). get_or (one ∷ segments) k segment) next) in
+            omega (arith, full);
+        before = rw next (omega (arith, same, past, front, one.ok, length-append one.items (entries_of (take n segments))));
+      }
+
+  -- what stands in some segments stands in one
+  pub some_segment : (segments : List (VecDeque Entry Z)) → 0 < length (entries_of segments) → 0 < length segments
+  some_segment [] some = absurd (omega (arith, some))
+  some_segment (segment ∷ segments) some = omega arith
+
+  countable_behind : (segments : List (VecDeque Entry Z)) (room : ℕ) → AreBehind segments →
+      (0 < length segments → room ≡ segment_room) → length segments ≤ most_segments → room < 9223372036854775808 →
+      length (entries_of segments) + room < 18446744073709551616
+  countable_behind [] room behind wide few small = omega (arith, small)
+  countable_behind (segment ∷ segments) room behind wide few small =
+      omega (arith, few_entries (segment ∷ segments) behind, wide (omega arith), few)
+
+-- all places can be counted
+pub countable : (inside : Inside) → AreLaid inside → inside.ahead + deque_capacity inside.last < 18446744073709551616
+countable inside sound =
+    omega (
+      arith,
+      countable_behind inside.more.items inside.last.cap sound.behind sound.room sound.few inside.last.small.0,
+      sound.ahead,
+    )
+
+pub all_countable : (inside : Inside) {laid : Laid} → laid_of inside ≡ laid → AreLaid inside →
+    length laid.items < 18446744073709551616
+all_countable inside view sound =
+    rw (← view) (omega (
+      arith,
+      countable inside sound,
+      sound.ahead,
+      inside.last.ok,
+      inside.last.small,
+      length-append (entries_of inside.more.items) inside.last.items,
+    ))
+
+-- an entry behind others is set where those end
+set_behind : (front back : List Entry) (n : ℕ) (entry : Entry) →
+    front ++ slice_set back n entry ≡ slice_set (front ++ back) (length front + n) entry
+set_behind front back n entry =
+    let behind : n ≡ length front + n - length front = omega arith in
+    ap (λ (k : ℕ). front ++ slice_set back k entry) behind
+    ∙ sym (set-append_right front back (length front) (length front + n) entry refl (omega arith))
+
+-- what stands at a place of one segment stands there among all
+module _ {Z : Type 0} (segment : VecDeque Entry Z) (rest : ℕ) (inner : rest < length segment.items) where
+  -- all from that place on
+  from_segment : (segments : List (VecDeque Entry Z)) (n : ℕ) → n < length segments → segment ≡ get_or segments n segment →
+      drop (length (entries_of (take n segments)) + rest) (entries_of segments)
+      ≡ drop rest segment.items ++ entries_of (drop (suc n) segments)
+  from_segment [] n some is = absurd (omega (arith, some))
+  from_segment (one ∷ segments) zero some is =
+      let same : rest ≡ 0 + rest = omega arith in
+      rw (← same, ← is) (drop-append-le rest segment.items (entries_of segments) (omega (arith, inner)))
+  from_segment (one ∷ segments) (suc n) some is =
+      let front = entries_of (take n segments) in
+      let same : length (one.items ++ front) + rest ≡ length one.items + (length front + rest) =
+      rw (length-append one.items front) (omega arith) in
+      rw same (drop-append-add one.items (entries_of segments) (length front + rest)
+      ∙ from_segment segments n (omega (arith, some)) is)
+
+  module _ (entry : Entry) (other : VecDeque Entry Z) (items : other.items ≡ slice_set segment.items rest entry)
+      (long : deque_len other ≡ deque_len segment) where
+    set_there : (segments : List (VecDeque Entry Z)) (n : ℕ) → n < length segments → segment ≡ get_or segments n segment →
+        entries_of (slice_set segments n other)
+        ≡ slice_set (entries_of segments) (length (entries_of (take n segments)) + rest) entry
+    set_there [] n some is = absurd (omega (arith, some))
+    set_there (one ∷ segments) zero some is =
+        let same : rest ≡ 0 + rest = omega arith in
+        rw (← same, ← is) (ap (λ (list : List Entry). list ++ entries_of segments) items
+        ∙ sym (set-append_left segment.items (entries_of segments) rest entry inner))
+    set_there (one ∷ segments) (suc n) some is =
+        let front = entries_of (take n segments) in
+        let same : length (one.items ++ front) + rest ≡ length one.items + (length front + rest) =
+        rw (length-append one.items front) (omega arith) in
+        rw same (ap (λ (list : List Entry). one.items ++ list) (set_there segments n (omega (arith, some)) is)
+        ∙ set_behind one.items (entries_of segments) (length front + rest) entry)
+
+    full_there : (segments : List (VecDeque Entry Z)) (n : ℕ) → AreFull segments → n < length segments →
+        segment ≡ get_or segments n segment → AreFull (slice_set segments n other)
+    full_there [] n full some is = absurd (omega (arith, some))
+    full_there (one ∷ segments) zero full some is =
+        (long ∙ ap (λ (one : VecDeque Entry Z). deque_len one) is ∙ full.0, full.1)
+    full_there (one ∷ segments) (suc n) full some is = (full.0, full_there segments n full.1 (omega (arith, some)) is)
+
+    behind_there : (segments : List (VecDeque Entry Z)) (n : ℕ) → AreBehind segments → n < length segments →
+        segment ≡ get_or segments n segment → AreBehind (slice_set segments n other)
+    behind_there [] n behind some is = absurd (omega (arith, some))
+    behind_there (one ∷ segments) zero behind some is =
+        let here = ap (λ (one : VecDeque Entry Z). deque_len one) is in
+        (omega (arith, behind.0, long, here), behind.1)
+    behind_there (one ∷ segments) (suc n) behind some is =
+        (behind.0, full_there segments n behind.1 (omega (arith, some)) is)
+
+-- a place in the last segment
+module _ (inside : Inside) {laid : Laid} (view : laid_of inside ≡ laid) (sound : AreLaid inside) {place : ℕ}
+    (some : place < length laid.items) (past : inside.ahead ≤ place) where
+  abbrev pub rest : ℕ
+  rest = place - inside.ahead
+
+  pub in_last : rest < length inside.last.items
+  in_last =
+      let within = rw (← view) at some in
+      omega (arith, within, sound.ahead, past, length-append (entries_of inside.more.items) inside.last.items)
+
+  from_last : drop place (items_of inside) ≡ drop rest inside.last.items
+  from_last =
+      let there : place ≡ length (entries_of inside.more.items) + rest = omega (arith, sound.ahead, past) in
+      ap (λ (n : ℕ). drop n (items_of inside)) there ∙ drop-append-add (entries_of inside.more.items) inside.last.items rest
+
+  pub run_in_last : {run : List Entry} → run ≡ take (length run) (drop rest inside.last.items) →
+      run ≡ take (length run) (drop place laid.items)
+  run_in_last {run} lies = rw (← view) (lies ∙ ap (take (length run)) (sym from_last))
+
+  pub one_in_last : {entry : Entry} → entry ≡ get_or inside.last.items rest entry → entry ≡ get_or laid.items place entry
+  one_in_last {entry} one =
+      let all = rw (drop_more inside.last.items rest entry in_last, ← one) at from_last in
+      let there = rw (← view) at some in
+      rw (← view) (ap (λ (list : List Entry). get_or list 0 entry)
+      (sym (rw (drop_more (items_of inside) place entry there) at all)))
+
+  pub lent_last : (entry : Entry) →
+      laid_of (record inside { last = deque_with_item inside.last rest entry }) ≡ with_entry laid place entry
+  lent_last entry =
+      let other = slice_set inside.last.items rest entry in
+      let there : length (entries_of inside.more.items) + rest ≡ place = omega (arith, sound.ahead, past) in
+      let items : entries_of inside.more.items ++ other ≡ slice_set (items_of inside) place entry =
+      set_behind (entries_of inside.more.items) inside.last.items rest entry
+      ∙ ap (λ (n : ℕ). slice_set (items_of inside) n entry) there in
+      let room : length (entries_of inside.more.items ++ other) + (deque_capacity inside.last - deque_len inside.last)
+      ≡ length (items_of inside) + (deque_capacity inside.last - deque_len inside.last) = rw (items, length-set) refl in
+      rw (← view) (λ k. record { items = items k; room = room k })
+
+-- a place in a segment before it
+module _ (inside : Inside) {laid : Laid} (view : laid_of inside ≡ laid) (sound : AreLaid inside) {place index rest : ℕ}
+    (found : IsFoundIn inside.more.items place index rest) {segment : VecDeque Entry Global}
+    (is : segment ≡ get_or inside.more.items index segment) where
+  pub in_segment : rest < length segment.items
+  in_segment = omega (arith, found.inner segment is, segment.ok)
+
+  from_there : drop place (items_of inside)
+      ≡ drop rest segment.items ++ entries_of (drop (suc index) inside.more.items) ++ inside.last.items
+  from_there =
+      let all = entries_of inside.more.items in
+      let there = from_segment segment rest in_segment inside.more.items index found.within is in
+      let some : place ≤ length all =
+      omega (arith, found.before, ap (λ (list : List Entry). length list) there, length-drop (length (entries_of (take index inside.more.items)) + rest) all, length-append (drop rest segment.items) (entries_of (drop (suc index) inside.more.items)), length-drop rest segment.items, in_segment) in
+      drop-append-le place all inside.last.items some
+      ∙ ap (λ (list : List Entry). list ++ inside.last.items)
+      (ap (λ (n : ℕ). drop n all) found.before ∙ there)
+
+  pub run_there : {run : List Entry} → run ≡ take (length run) (drop rest segment.items) →
+      run ≡ take (length run) (drop place laid.items)
+  run_there {run} lies =
+      let short = ap (λ (list : List Entry). length list) lies in
+      let all = length-take (length run) (drop rest segment.items) in
+      let tail = entries_of (drop (suc index) inside.more.items) in
+      rw (← view) (lies
+      ∙ sym (take-append-le (length run) (drop rest segment.items) (tail ++ inside.last.items) (omega (arith, short, all)))
+      ∙ ap (take (length run)) (sym (append_assoc (drop rest segment.items) tail inside.last.items) ∙ sym from_there))
+
+  pub one_there : {entry : Entry} → place < length laid.items → entry ≡ get_or segment.items rest entry →
+      entry ≡ get_or laid.items place entry
+  one_there {entry} some one =
+      let there = rw (← view) at some in
+      let all = rw (drop_more segment.items rest entry in_segment, ← one) at from_there in
+      rw (← view) (ap (λ (list : List Entry). get_or list 0 entry)
+      (sym (rw (drop_more (items_of inside) place entry there) at all)))
+
+  module _ (entry : Entry) where
+    abbrev pub lent : List (VecDeque Entry Global)
+    lent = slice_set inside.more.items index (deque_with_item segment rest entry)
+
+    lent_entries : entries_of lent ≡ slice_set (entries_of inside.more.items) place entry
+    lent_entries =
+        set_there segment rest in_segment entry (deque_with_item segment rest entry) refl refl inside.more.items index
+        found.within is
+        ∙ ap (λ (n : ℕ). slice_set (entries_of inside.more.items) n entry) (sym found.before)
+
+    pub lent_sound : AreLaid (record inside { more = deque_with_item inside.more index (deque_with_item segment rest entry) })
+    lent_sound =
+        let long = length-set inside.more.items index (deque_with_item segment rest entry) in record {
+          ahead = rw (lent_entries, length-set) sound.ahead;
+          behind = behind_there segment rest in_segment entry (deque_with_item segment rest entry) refl refl inside.more.items
+              index sound.behind found.within is;
+          room = λ some. sound.room (omega (arith, some, long));
+          few = omega (arith, long, sound.few);
+        }
+
+    pub lent_there : place < length (entries_of inside.more.items) →
+        laid_of (record inside { more = deque_with_item inside.more index (deque_with_item segment rest entry) })
+        ≡ with_entry laid place entry
+    lent_there some =
+        let items : entries_of lent ++ inside.last.items ≡ slice_set (items_of inside) place entry =
+        ap (λ (list : List Entry). list ++ inside.last.items) lent_entries
+        ∙ sym (set-append_left (entries_of inside.more.items) inside.last.items place entry some) in
+        let room : length (entries_of lent ++ inside.last.items) + (deque_capacity inside.last - deque_len inside.last)
+        ≡ length (items_of inside) + (deque_capacity inside.last - deque_len inside.last) = rw (items, length-set) refl in
+        rw (← view) (λ k. record { items = items k; room = room k })

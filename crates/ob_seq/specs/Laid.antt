@@ -1,0 +1,67 @@
+-- How entries lie in memory. No public clause cites this module.
+use Rattle.std.specs.Prelude.{◌≡◌, ◌≤◌, ◌<◌, ◌+◌, ◌-◌, ℕ, List, [], ◌∷◌, ◌++◌, length, take, slice_index_or}
+use Rattle.std.specs.VecDeque.{deque_capacity, deque_items, deque_len}
+use Rattle.std_alloc.specs.declared.vec.deque.VecDeque.{VecDeque}
+use Rattle.ob_seq.specs.declared.entry.Entry.{Entry}
+use Rattle.ob_seq.specs.declared.entries.Entries.TheInside.{Inside}
+
+-- entries, oldest first, and how many there may be before memory is taken for one more
+pub record Laid : Type 0 where
+  pub items : List Entry
+  pub room : ℕ
+
+-- how many entries a segment has
+abbrev pub segment_room : ℕ
+segment_room = 64
+
+-- how many segments lie before the last at most: no memory has as many
+abbrev pub most_segments : ℕ
+most_segments = 281474976710656
+
+module _ {Z : Type 0} where
+  -- the entries of segments, one segment behind the other
+  abbrev pub entries_of : List (VecDeque Entry Z) → List Entry
+  entries_of [] = []
+  entries_of (segment ∷ segments) = deque_items segment ++ entries_of segments
+
+  -- segments of 64 entries each
+  abbrev pub AreFull : List (VecDeque Entry Z) → Type 0
+  AreFull [] = Unit {0}
+  AreFull (segment ∷ segments) = (deque_len segment ≡ segment_room) × AreFull segments
+
+  -- the first gives its entries away and has some left, and those behind it are full
+  abbrev pub AreBehind : List (VecDeque Entry Z) → Type 0
+  AreBehind [] = Unit {0}
+  AreBehind (segment ∷ segments) = (0 < deque_len segment) × AreFull segments
+
+  -- what was last stands behind the others, and an empty one with room for 64 is last; there were not too many
+  pub record IsAdded (last : VecDeque Entry Z) (old : List (VecDeque Entry Z)) (empty : VecDeque Entry Z)
+      (new : List (VecDeque Entry Z)) : Type 0 where
+    pub behind : new ≡ old ++ last ∷ []
+    pub none : deque_items empty ≡ []
+    pub room : deque_capacity empty ≡ segment_room
+    pub few : length old < most_segments
+
+  -- the entry at a place of all stands at this one of this segment
+  pub record IsFoundIn (segments : List (VecDeque Entry Z)) (place index rest : ℕ) : Type 0 where
+    pub within : index < length segments
+    pub inner : (segment : VecDeque Entry Z) → segment ≡ slice_index_or segments index segment → rest < deque_len segment
+    pub before : place ≡ length (entries_of (take index segments)) + rest
+
+-- all entries, those of the segments before the last and then its own
+abbrev pub items_of : Inside → List Entry
+items_of inside = entries_of inside.more.items ++ inside.last.items
+
+-- a place to spare is one in the last segment
+abbrev pub laid_of : Inside → Laid
+laid_of inside = record {
+  items = items_of inside;
+  room = length (items_of inside) + (deque_capacity inside.last - deque_len inside.last);
+}
+
+-- those before the last are counted; they are full but for the first, and behind some the last has room for 64
+pub record AreLaid (inside : Inside) : Type 0 where
+  pub ahead : inside.ahead ≡ length (entries_of inside.more.items)
+  pub behind : AreBehind inside.more.items
+  pub room : 0 < length inside.more.items → deque_capacity inside.last ≡ segment_room
+  pub few : length inside.more.items ≤ most_segments
