@@ -1035,8 +1035,7 @@ LIMEKEEL_TOLD static inline struct limekeel_pressed_written limekeel_budgeted_wr
 void limekeel_let_go(struct limekeel_rooms *rooms, uint64_t end);
 
 /* The heap. Limekeel allocates through these three alone. heap.c defines them over malloc, weakly: a
- * program that defines all three itself gets its own. On Linux heap.c spares up to 271 KiB of what connections gave back, a
- * block of each size from 1 to 128 KiB, for the one that needs as much next. They are of one heap; a block is aligned to each
+ * program that defines all three itself gets its own. They are of one heap; a block is aligned to each
  * power of two up to 16 that divides its size, and more is never asked for. If memory is refused `given`
  * is false, `at` points anywhere but to NULL, and a block that was to grow stays as it was. Of the block
  * that realloc moves the first `kept` bytes stay. */
