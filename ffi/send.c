@@ -9,16 +9,26 @@
 
 #include "limekeel.h"
 
-/* Makes one slice of those that lie together in memory, and returns how many are left. */
+static const uint8_t *end_of(const struct iovec *slice)
+{
+    return (const uint8_t *)slice->iov_base + slice->iov_len;
+}
+
+/* Makes one slice of those that lie together in memory, and returns how many are left; there is one at least. The end of the
+ * last is kept at hand: else each that joins it waits for the length that the one before wrote. */
 static size_t joined(struct iovec *slices, size_t count)
 {
     size_t last = 0;
+    const uint8_t *end = end_of(slices);
     for (size_t at = 1; at < count; at++) {
-        if ((const uint8_t *)slices[last].iov_base + slices[last].iov_len == (const uint8_t *)slices[at].iov_base)
-            slices[last].iov_len += slices[at].iov_len;
-        else
-            slices[++last] = slices[at];
+        const uint8_t *next = end_of(&slices[at]);
+        if ((const uint8_t *)slices[at].iov_base != end) {
+            slices[last].iov_len = (size_t)(end - (const uint8_t *)slices[last].iov_base);
+            slices[++last].iov_base = slices[at].iov_base;
+        }
+        end = next;
     }
+    slices[last].iov_len = (size_t)(end - (const uint8_t *)slices[last].iov_base);
     return last + 1;
 }
 

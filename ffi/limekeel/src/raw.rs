@@ -326,19 +326,24 @@ pub(crate) unsafe fn as_slices<'a>(places: &[Place]) -> &[IoSlice<'a>] {
 ///
 /// Two blocks that a heap lays side by side, with no byte of its own between them, are one piece then, though they are two
 /// allocations. Their pointers come out of the archive, into which no compiler of Rust sees, and the bytes are only read.
+///
+/// The end of the last is kept at hand: else each that joins it waits for the length that the one before wrote.
 pub(crate) fn joined(pieces: &mut [sys::Piece]) -> usize {
-    let mut count: usize = 0;
-    for at in 0..pieces.len() {
+    let end_of = |piece: sys::Piece| piece.at.wrapping_add(piece.length);
+    let length_to = |end: *const u8, piece: sys::Piece| end as usize - piece.at as usize;
+    let Some(first) = pieces.first() else { return 0 };
+    let (mut last, mut end) = (0, end_of(*first));
+    for at in 1..pieces.len() {
         let piece = pieces[at];
-        match count.checked_sub(1).map(|last| &mut pieces[last]) {
-            Some(last) if last.at.wrapping_add(last.length) == piece.at => last.length += piece.length,
-            _ => {
-                pieces[count] = piece;
-                count += 1;
-            }
+        if piece.at != end {
+            pieces[last].length = length_to(end, pieces[last]);
+            last += 1;
+            pieces[last] = piece;
         }
+        end = end_of(piece);
     }
-    count
+    pieces[last].length = length_to(end, pieces[last]);
+    last + 1
 }
 
 impl Drop for Handle {
