@@ -8,8 +8,8 @@
 #include "limekeel.h"
 
 #define ENTRY 64 /* bytes of an entry */
-#define SEGMENT 64 /* entries of a segment */
-#define GROWTHS 3 /* of a ring that takes in so many */
+#define SEGMENT 128 /* entries of a segment */
+#define GROWTHS 4 /* of a ring that takes in so many */
 #define MANY 1000
 
 static void expect(const char *what, bool holds)

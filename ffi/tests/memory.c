@@ -11,7 +11,7 @@
 
 #define OVER 16 /* before each block stands how long it is */
 #define IDLE 168
-#define BURST (IDLE + 4096) /* with the ring of 64 entries that is kept after a burst */
+#define BURST (IDLE + 7 * 64) /* with the ring of 7 entries that is kept after a burst */
 #define MANY 100000
 
 static uint8_t nowhere;

@@ -52,7 +52,31 @@ pub extern "C" fn limekeel_write_block(handle: &mut Handle, block: &mut Block) -
 pub extern "C" fn limekeel_write_lent_bytes(handle: &mut Handle, bytes: &'static [u8]) -> Written
     ensures { ObeysFor handle.old.value (Write (AsBlock bytes.now)) written_reply written_in_c result handle.new.value }
 {
+    if !has_place(handle) {
+        // Returned as it is, the answer of a write goes through memory too, and is read there by other pieces than it was
+        // written in, for which the processor waits.
+        let Written { status, change, id } = lend_growing(handle, bytes);
+        return Written { status, change, id };
+    }
     Written::of(handle.command(|connection| write(connection, lent(bytes))))
+}
+
+/// The same of a connection that grows by it, or of none.
+// It is rare: apart, a write saves no registers for it. Each of the two has a closure of its own, and so in one piece with it.
+#[cold]
+#[inline(never)]
+fn lend_growing(handle: &mut Handle, bytes: &'static [u8]) -> Written
+    ensures { ObeysFor handle.old.value (Write (AsBlock bytes.now)) written_reply written_in_c result handle.new.value }
+{
+    Written::of(handle.command(|connection| write(connection, lent(bytes))))
+}
+
+/// Whether there is a connection, and a place in it for one more message.
+#[inline(always)]
+fn has_place(handle: &mut Handle) -> bool
+    ensures { handle.new.value ≡ handle.old.value }
+{
+    handle.is_open() && handle.reach().has_place()
 }
 
 /// Writes a region of `length` bytes, which the transport sends by itself.

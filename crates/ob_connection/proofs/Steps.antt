@@ -110,7 +110,7 @@ first_refused command tell refusal other first = record {
 
 -- what is held does not tell how much room the ring has
 pub becomes_roomed : (step : Pending → Pending) {old : Connected} (now : Connected) {new : Connected} →
-    new ≡ roomed (room_in new) now → Becomes step old now → Becomes step old new
+    new ≡ roomed new now → Becomes step old now → Becomes step old new
 becomes_roomed step {old} now same becomes = subst (λ one. Becomes step old one) (sym same) (λ past.
     let there = becomes past in (record { outcomes = there.0.outcomes; count = there.0.count }, there.1))
 
@@ -129,7 +129,7 @@ becomes_left step outcome count {old} left few left_is past =
     )
 
 pub steps_roomed : {A : Type 0} {step : Pending → Step} {tell : List PromiseState → A → Reply} {value : A}
-    {old : Connected} (now : Connected) {new : Connected} → new ≡ roomed (room_in new) now →
+    {old : Connected} (now : Connected) {new : Connected} → new ≡ roomed new now →
     Steps step old tell (Ok value) now → Steps step old tell (Ok value) new
 steps_roomed {step} {tell} {value} {old} now same steps = subst (λ one. Steps step old tell (Ok value) one) (sym same) (record {
   makes = λ past.

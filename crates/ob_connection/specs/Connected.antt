@@ -85,9 +85,10 @@ Gives connection after value = GivesBy (StandsFor connection) connection.unsent.
 abbrev pub room_in : Connected → ℕ
 room_in connection = connection.unsent.room
 
--- a connection that has another room, and is the same otherwise
-abbrev pub roomed : ℕ → Connected → Connected
-roomed room connection = record connection { unsent = record connection.unsent { room = room } }
+-- a connection with the room and the memory of another, and otherwise as it was
+abbrev pub roomed : Connected → Connected → Connected
+roomed other connection =
+    record connection { unsent = record connection.unsent { room = other.unsent.room; capacity = other.unsent.capacity } }
 
 -- there is room for as many as before
 abbrev pub KeepsRoom : Connected → Connected → Type 0

@@ -29,9 +29,9 @@ use std::marker::Model;
 /// 2^64 - 1 writes are accepted.
 ///
 /// Only a write can run out of memory, and what is gone takes none. What waits takes entries of 64 bytes, beside the memory
-/// of the messages. While few wait they lie in one ring, and once 64 wait in segments of 64, each of which is freed when its last
+/// of the messages. While few wait they lie in one ring, and once 128 wait in segments of 128, each of which is freed when its last
 /// entry is gone. A connection with nothing written has neither. After each removal and each failing a ring in which all lie,
-/// and with room for more than 8, has room for fewer than four times as many as wait, or for 8; a close gives it all back. If
+/// and with room for more than 7, has room for fewer than four times as many as wait, or for 7; a close gives it all back. If
 /// the allocator refuses the smaller ring, the connection keeps the one that it has until the next removal.
 #[repr(C)]
 #[derive(Debug, Drop)]
@@ -110,7 +110,7 @@ impl Connection {
     /// Gives memory back that what waits does not need, as `Contents::give_back`. If nothing waits no chunk is kept.
     #[inline(always)]
     fn give_back(&mut self)
-        ensures same { self.new ≡ roomed (room_in self.new) self.old }
+        ensures same { self.new ≡ roomed self.new self.old }
         ensures less { TakesNoRoom self.old self.new }
         ensures closed { self.old.unsent.closed ≡ true → waiting_count self.old.unsent ≡ 0 → room_in self.new ≡ 0 }
     {

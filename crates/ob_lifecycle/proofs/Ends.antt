@@ -348,7 +348,7 @@ stands_named old new now before between first brings stands took events other =
 shrunk_connection : (old new : Connected) → Shrinks old new → (commands : List Command) → ConnectionStandsFor old commands
     → ConnectionStandsFor new commands
 shrunk_connection old new shrinks commands stands =
-    let is : new ≡ record old { unsent = record old.unsent { room = new.unsent.room } } =
+    let is : new ≡ record old { unsent = record old.unsent { room = new.unsent.room; capacity = new.unsent.capacity } } =
     shrinks.same ∙ ap (λ unsent. record old { unsent = unsent }) shrinks.unsent.same in
     subst (λ connection. ConnectionStandsFor connection commands) (sym is) (record {
       past = stands.past;

@@ -7,9 +7,10 @@ use Rattle.std.proofs.Math.Seq.{drop-append-add}
 use Rattle.std.proofs.lemmas.List.{drop-append-le, drop_more, length-drop, length-set, length-take, set-append_left}
 use Rattle.std.proofs.lemmas.List.{set-append_right, take-append-le}
 use Rattle.ob_seq.proofs.Words.{◌≡◌, ◌<◌, ◌≤◌, ◌+◌, ◌-◌, ◌*◌, ◌/◌, ℕ, zero, suc, List, [], ◌∷◌, ◌++◌, length, take, drop, get_or}
-use Rattle.ob_seq.proofs.Words.{slice_set, refl, sym, ap, ◌∙◌, arith, append_assoc, append-nil, length-append, Entry}
-use Rattle.ob_seq.specs.Laid.{AreBehind, AreFull, AreLaid, IsFoundIn, Laid, entries_of, items_of, laid_of, most_segments}
-use Rattle.ob_seq.specs.Laid.{segment_room}
+use Rattle.ob_seq.proofs.Words.{slice_set, refl, sym, ap, ◌∙◌, arith, append_assoc, append-nil, length-append, nat_tests, Entry}
+use Rattle.ob_seq.specs.Laid.{AreBehind, AreFull, AreLaid, IsFoundIn, Laid, capacity_of, entries_of, items_of, laid_of}
+use Rattle.ob_seq.specs.Laid.{most_segments, segment_room}
+use Rattle.ob_seq.specs.Unsent.{grown_room, most_left_behind}
 use Rattle.ob_seq.specs.Lent.{with_entry}
 use Rattle.std.specs.VecDeque.{deque_with_item}
 use Rattle.ob_seq.specs.declared.entries.Entries.TheInside.{Inside}
@@ -24,15 +25,73 @@ module _ {Z : Type 0} where
 
   -- a full one may follow, and any may that is the first
   full_behind : (segments : List (VecDeque Entry Z)) (last : VecDeque Entry Z) → AreFull segments →
-      deque_len last ≡ segment_room → AreFull (segments ++ last ∷ [])
-  full_behind [] last full long = (long, tt)
-  full_behind (segment ∷ segments) last full long = (full.0, full_behind segments last full.1 long)
+      deque_len last ≡ segment_room → deque_capacity last ≡ segment_room → AreFull (segments ++ last ∷ [])
+  full_behind [] last full long wide = ((long, wide), tt)
+  full_behind (segment ∷ segments) last full long wide = (full.0, full_behind segments last full.1 long wide)
 
   pub one_behind : (segments : List (VecDeque Entry Z)) (last : VecDeque Entry Z) → AreBehind segments →
-      0 < deque_len last → (0 < length segments → deque_len last ≡ segment_room) → AreBehind (segments ++ last ∷ [])
-  one_behind [] last behind some long = (some, tt)
-  one_behind (segment ∷ segments) last behind some long =
-      (behind.0, full_behind segments last behind.1 (long (omega arith)))
+      0 < deque_len last → (0 < length segments → deque_len last ≡ segment_room) →
+      (0 < length segments → deque_capacity last ≡ segment_room) → deque_capacity last ≤ most_left_behind →
+      AreBehind (segments ++ last ∷ [])
+  one_behind [] last behind some long wide small = ((some, small), tt)
+  one_behind (segment ∷ segments) last behind some long wide small =
+      (behind.0, full_behind segments last behind.1 (long (omega arith)) (wide (omega arith)))
+
+  -- for how many entries there is memory with one segment more
+  pub capacity_behind : (segments : List (VecDeque Entry Z)) (last : VecDeque Entry Z) →
+      capacity_of (segments ++ last ∷ []) ≡ capacity_of segments + deque_capacity last
+  capacity_behind [] last = omega arith
+  capacity_behind (segment ∷ segments) last = omega (arith, capacity_behind segments last)
+
+  -- full ones have no other place
+  full_capacity : (segments : List (VecDeque Entry Z)) → AreFull segments →
+      capacity_of segments ≡ length segments * segment_room
+  full_capacity [] full = refl
+  full_capacity (segment ∷ segments) full = omega (arith, full.0.1, full_capacity segments full.1)
+
+  full_count : (segments : List (VecDeque Entry Z)) → AreFull segments →
+      length (entries_of segments) ≡ length segments * segment_room
+  full_count [] full = refl
+  full_count (segment ∷ segments) full =
+      omega (arith, full_count segments full.1, full.0.0, segment.ok, length-append segment.items (entries_of segments))
+
+  -- they have memory for what they have and for little more
+  pub little_more : (segments : List (VecDeque Entry Z)) → AreBehind segments →
+      capacity_of segments ≤ length (entries_of segments) + most_left_behind
+  little_more [] behind = omega arith
+  little_more (segment ∷ segments) behind =
+      omega (
+        arith,
+        behind.0.1,
+        full_capacity segments behind.1,
+        full_count segments behind.1,
+        length-append segment.items (entries_of segments),
+      )
+
+  pub few_places : (segments : List (VecDeque Entry Z)) → AreBehind segments →
+      capacity_of segments ≤ most_left_behind + length segments * segment_room
+  few_places [] behind = omega arith
+  few_places (segment ∷ segments) behind = omega (arith, behind.0.1, full_capacity segments behind.1)
+
+  pub no_less : (segments : List (VecDeque Entry Z)) → length (entries_of segments) ≤ capacity_of segments
+  no_less [] = omega arith
+  no_less (segment ∷ segments) =
+      omega (arith, no_less segments, segment.ok, segment.small, length-append segment.items (entries_of segments))
+
+  -- the first by itself, and those behind it by their number
+  pub capacity_from : (segments : List (VecDeque Entry Z)) (first : VecDeque Entry Z) → AreBehind segments →
+      0 < length segments → first ≡ get_or segments 0 first →
+      deque_capacity first + (length segments - 1) * segment_room ≡ capacity_of segments
+  capacity_from [] first behind some is = absurd (omega (arith, some))
+  capacity_from (segment ∷ segments) first behind some is =
+      omega (arith, ap (λ (one : VecDeque Entry Z). deque_capacity one) is, full_capacity segments behind.1)
+
+  -- no segment has none
+  pub none_behind : (segments : List (VecDeque Entry Z)) → AreBehind segments → length (entries_of segments) ≡ 0 →
+      segments ≡ []
+  none_behind [] behind none = refl
+  none_behind (segment ∷ segments) behind none =
+      absurd (omega (arith, none, behind.0.0, segment.ok, length-append segment.items (entries_of segments)))
 
   -- full segments have 64 entries each
   full_before : (segments : List (VecDeque Entry Z)) (n : ℕ) → AreFull segments → n ≤ length segments →
@@ -43,21 +102,15 @@ module _ {Z : Type 0} where
       omega (
         arith,
         full_before segments n full.1 (omega (arith, few)),
-        full.0,
+        full.0.0,
         segment.ok,
         length-append segment.items (entries_of (take n segments)),
       )
 
-  full_count : (segments : List (VecDeque Entry Z)) → AreFull segments →
-      length (entries_of segments) ≡ length segments * segment_room
-  full_count [] full = refl
-  full_count (segment ∷ segments) full =
-      omega (arith, full_count segments full.1, full.0, segment.ok, length-append segment.items (entries_of segments))
-
   full_at : (segments : List (VecDeque Entry Z)) (n : ℕ) (segment : VecDeque Entry Z) → AreFull segments →
       n < length segments → segment ≡ get_or segments n segment → deque_len segment ≡ segment_room
   full_at [] n segment full some is = absurd (omega (arith, some))
-  full_at (one ∷ segments) zero segment full some is = ap (λ (one : VecDeque Entry Z). deque_len one) is ∙ full.0
+  full_at (one ∷ segments) zero segment full some is = ap (λ (one : VecDeque Entry Z). deque_len one) is ∙ full.0.0
   full_at (one ∷ segments) (suc n) segment full some is =
       full_at segments n segment full.1 (omega (arith, some)) is
 
@@ -77,10 +130,10 @@ module _ {Z : Type 0} where
   -- a place behind the first segment lies in one of the others
   pub found_behind : (segments : List (VecDeque Entry Z)) (first : VecDeque Entry Z) (place ahead : ℕ) → AreBehind segments →
       place < length (entries_of segments) → first ≡ get_or segments 0 first → ahead ≡ deque_len first → ahead ≤ place →
-      IsFoundIn segments place ((place - ahead) / 64 + 1) ((place - ahead) % 64)
+      IsFoundIn segments place ((place - ahead) / 128 + 1) ((place - ahead) % 128)
   found_behind [] first place ahead behind there is long past = absurd (omega (arith, there))
   found_behind (one ∷ segments) first place ahead behind there is long past =
-      let n = (place - ahead) / 64 in
+      let n = (place - ahead) / 128 in
       let same : ahead ≡ deque_len one = long ∙ ap (λ (one : VecDeque Entry Z). deque_len one) is in
       let all = full_count segments behind.1 in
       let count = length-append one.items (entries_of segments) in
@@ -128,6 +181,10 @@ all_countable inside view sound =
       length-append (entries_of inside.more.items) inside.last.items,
     ))
 
+-- many grow by a segment
+pub segment_more : (count room : ℕ) → room ≡ count → segment_room ≤ count → grown_room count room ≡ count + segment_room
+segment_more count room full many = grind (arith, nat_tests)
+
 -- an entry behind others is set where those end
 set_behind : (front back : List Entry) (n : ℕ) (entry : Entry) →
     front ++ slice_set back n entry ≡ slice_set (front ++ back) (length front + n) entry
@@ -154,7 +211,7 @@ module _ {Z : Type 0} (segment : VecDeque Entry Z) (rest : ℕ) (inner : rest < 
       ∙ from_segment segments n (omega (arith, some)) is)
 
   module _ (entry : Entry) (other : VecDeque Entry Z) (items : other.items ≡ slice_set segment.items rest entry)
-      (long : deque_len other ≡ deque_len segment) where
+      (long : deque_len other ≡ deque_len segment) (wide : deque_capacity other ≡ deque_capacity segment) where
     set_there : (segments : List (VecDeque Entry Z)) (n : ℕ) → n < length segments → segment ≡ get_or segments n segment →
         entries_of (slice_set segments n other)
         ≡ slice_set (entries_of segments) (length (entries_of (take n segments)) + rest) entry
@@ -174,7 +231,8 @@ module _ {Z : Type 0} (segment : VecDeque Entry Z) (rest : ℕ) (inner : rest < 
         segment ≡ get_or segments n segment → AreFull (slice_set segments n other)
     full_there [] n full some is = absurd (omega (arith, some))
     full_there (one ∷ segments) zero full some is =
-        (long ∙ ap (λ (one : VecDeque Entry Z). deque_len one) is ∙ full.0, full.1)
+        let long_there = long ∙ ap (λ (one : VecDeque Entry Z). deque_len one) is ∙ full.0.0 in
+        ((long_there, wide ∙ ap (λ (one : VecDeque Entry Z). deque_capacity one) is ∙ full.0.1), full.1)
     full_there (one ∷ segments) (suc n) full some is = (full.0, full_there segments n full.1 (omega (arith, some)) is)
 
     behind_there : (segments : List (VecDeque Entry Z)) (n : ℕ) → AreBehind segments → n < length segments →
@@ -182,9 +240,18 @@ module _ {Z : Type 0} (segment : VecDeque Entry Z) (rest : ℕ) (inner : rest < 
     behind_there [] n behind some is = absurd (omega (arith, some))
     behind_there (one ∷ segments) zero behind some is =
         let here = ap (λ (one : VecDeque Entry Z). deque_len one) is in
-        (omega (arith, behind.0, long, here), behind.1)
+        let there = ap (λ (one : VecDeque Entry Z). deque_capacity one) is in
+        ((omega (arith, behind.0.0, long, here), omega (arith, behind.0.1, wide, there)), behind.1)
     behind_there (one ∷ segments) (suc n) behind some is =
         (behind.0, full_there segments n behind.1 (omega (arith, some)) is)
+
+    capacity_there : (segments : List (VecDeque Entry Z)) (n : ℕ) → n < length segments →
+        segment ≡ get_or segments n segment → capacity_of (slice_set segments n other) ≡ capacity_of segments
+    capacity_there [] n some is = absurd (omega (arith, some))
+    capacity_there (one ∷ segments) zero some is =
+        omega (arith, wide, ap (λ (one : VecDeque Entry Z). deque_capacity one) is)
+    capacity_there (one ∷ segments) (suc n) some is =
+        omega (arith, capacity_there segments n (omega (arith, some)) is)
 
 -- a place in the last segment
 module _ (inside : Inside) {laid : Laid} (view : laid_of inside ≡ laid) (sound : AreLaid inside) {place : ℕ}
@@ -223,7 +290,11 @@ module _ (inside : Inside) {laid : Laid} (view : laid_of inside ≡ laid) (sound
       ∙ ap (λ (n : ℕ). slice_set (items_of inside) n entry) there in
       let room : length (entries_of inside.more.items ++ other) + (deque_capacity inside.last - deque_len inside.last)
       ≡ length (items_of inside) + (deque_capacity inside.last - deque_len inside.last) = rw (items, length-set) refl in
-      rw (← view) (λ k. record { items = items k; room = room k })
+      rw (← view) (λ k. record {
+        items = items k;
+        room = room k;
+        capacity = capacity_of inside.more.items + deque_capacity inside.last;
+      })
 
 -- a place in a segment before it
 module _ (inside : Inside) {laid : Laid} (view : laid_of inside ≡ laid) (sound : AreLaid inside) {place index rest : ℕ}
@@ -267,7 +338,7 @@ module _ (inside : Inside) {laid : Laid} (view : laid_of inside ≡ laid) (sound
 
     lent_entries : entries_of lent ≡ slice_set (entries_of inside.more.items) place entry
     lent_entries =
-        set_there segment rest in_segment entry (deque_with_item segment rest entry) refl refl inside.more.items index
+        set_there segment rest in_segment entry (deque_with_item segment rest entry) refl refl refl inside.more.items index
         found.within is
         ∙ ap (λ (n : ℕ). slice_set (entries_of inside.more.items) n entry) (sym found.before)
 
@@ -275,10 +346,11 @@ module _ (inside : Inside) {laid : Laid} (view : laid_of inside ≡ laid) (sound
     lent_sound =
         let long = length-set inside.more.items index (deque_with_item segment rest entry) in record {
           ahead = rw (lent_entries, length-set) sound.ahead;
-          behind = behind_there segment rest in_segment entry (deque_with_item segment rest entry) refl refl inside.more.items
+          behind = behind_there segment rest in_segment entry (deque_with_item segment rest entry) refl refl refl inside.more.items
               index sound.behind found.within is;
           room = λ some. sound.room (omega (arith, some, long));
           few = omega (arith, long, sound.few);
+          small = sound.small;
         }
 
     pub lent_there : place < length (entries_of inside.more.items) →
@@ -290,4 +362,11 @@ module _ (inside : Inside) {laid : Laid} (view : laid_of inside ≡ laid) (sound
         ∙ sym (set-append_left (entries_of inside.more.items) inside.last.items place entry some) in
         let room : length (entries_of lent ++ inside.last.items) + (deque_capacity inside.last - deque_len inside.last)
         ≡ length (items_of inside) + (deque_capacity inside.last - deque_len inside.last) = rw (items, length-set) refl in
-        rw (← view) (λ k. record { items = items k; room = room k })
+        let memory : capacity_of lent ≡ capacity_of inside.more.items =
+        capacity_there segment rest in_segment entry (deque_with_item segment rest entry) refl refl refl inside.more.items index
+        found.within is in
+        rw (← view) (λ k. record {
+          items = items k;
+          room = room k;
+          capacity = memory k + deque_capacity inside.last;
+        })

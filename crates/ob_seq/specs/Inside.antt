@@ -25,6 +25,7 @@ unsent_of inside = record {
   word = inside.word;
   closed = inside.closed;
   room = inside.entries.room;
+  capacity = inside.entries.capacity;
 }
 
 -- what every call keeps: the line is within the entries, the numbers fit, the running total is the sum of the pending

@@ -2,17 +2,19 @@
 use Rattle.std.specs.Prelude.{◌≡◌, ◌≤◌, ◌<◌, ◌+◌, ◌-◌, ℕ, List, [], ◌∷◌, ◌++◌, length, take, slice_index_or}
 use Rattle.std.specs.VecDeque.{deque_capacity, deque_items, deque_len}
 use Rattle.std_alloc.specs.declared.vec.deque.VecDeque.{VecDeque}
+use Rattle.ob_seq.specs.Unsent.{most_left_behind}
 use Rattle.ob_seq.specs.declared.entry.Entry.{Entry}
 use Rattle.ob_seq.specs.declared.entries.Entries.TheInside.{Inside}
 
--- entries, oldest first, and how many there may be before memory is taken for one more
+-- entries, oldest first, how many there may be before memory is taken for one more, and for how many memory is held
 pub record Laid : Type 0 where
   pub items : List Entry
   pub room : ℕ
+  pub capacity : ℕ
 
 -- how many entries a segment has
 abbrev pub segment_room : ℕ
-segment_room = 64
+segment_room = 128
 
 -- how many segments lie before the last at most: no memory has as many
 abbrev pub most_segments : ℕ
@@ -24,15 +26,22 @@ module _ {Z : Type 0} where
   entries_of [] = []
   entries_of (segment ∷ segments) = deque_items segment ++ entries_of segments
 
-  -- segments of 64 entries each
+  -- for how many entries segments have memory
+  abbrev pub capacity_of : List (VecDeque Entry Z) → ℕ
+  capacity_of [] = 0
+  capacity_of (segment ∷ segments) = deque_capacity segment + capacity_of segments
+
+  -- segments of 128 entries each, and without another place
   abbrev pub AreFull : List (VecDeque Entry Z) → Type 0
   AreFull [] = Unit {0}
-  AreFull (segment ∷ segments) = (deque_len segment ≡ segment_room) × AreFull segments
+  AreFull (segment ∷ segments) =
+      ((deque_len segment ≡ segment_room) × (deque_capacity segment ≡ segment_room)) × AreFull segments
 
-  -- the first gives its entries away and has some left, and those behind it are full
+  -- the first gives its entries away, has some left and was no larger than a ring gets, and those behind it are full
   abbrev pub AreBehind : List (VecDeque Entry Z) → Type 0
   AreBehind [] = Unit {0}
-  AreBehind (segment ∷ segments) = (0 < deque_len segment) × AreFull segments
+  AreBehind (segment ∷ segments) =
+      ((0 < deque_len segment) × (deque_capacity segment ≤ most_left_behind)) × AreFull segments
 
   -- what was last stands behind the others, and an empty one with room for 64 is last; there were not too many
   pub record IsAdded (last : VecDeque Entry Z) (old : List (VecDeque Entry Z)) (empty : VecDeque Entry Z)
@@ -57,11 +66,14 @@ abbrev pub laid_of : Inside → Laid
 laid_of inside = record {
   items = items_of inside;
   room = length (items_of inside) + (deque_capacity inside.last - deque_len inside.last);
+  capacity = capacity_of inside.more.items + deque_capacity inside.last;
 }
 
--- those before the last are counted; they are full but for the first, and behind some the last has room for 64
+-- those before the last are counted; they are full but for the first, behind some the last has room for 128, and by itself
+-- it is no larger than a ring gets
 pub record AreLaid (inside : Inside) : Type 0 where
   pub ahead : inside.ahead ≡ length (entries_of inside.more.items)
   pub behind : AreBehind inside.more.items
   pub room : 0 < length inside.more.items → deque_capacity inside.last ≡ segment_room
   pub few : length inside.more.items ≤ most_segments
+  pub small : deque_capacity inside.last ≤ most_left_behind

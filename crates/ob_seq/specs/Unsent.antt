@@ -1,5 +1,5 @@
 -- What waits to be sent, each message with its promise, and for how many messages there is room.
-use Rattle.std.specs.Prelude.{ℕ, ◌+◌, Bool, false, List, [], ◌++◌, length, map, if◌then◌else◌, ◌≡◌, ◌≤◌, true, max, min}
+use Rattle.std.specs.Prelude.{ℕ, ◌+◌, ◌*◌, ◌/◌, Bool, false, List, [], ◌++◌, length, map, if◌then◌else◌, ◌≡◌, ◌≤◌, true, max}
 use Rattle.std.specs.Prelude.{nat_lt}
 use Rattle.ob_types.specs.Marks.{Marks}
 use Rattle.ob_types.specs.declared.promise.Outcome.{Outcome}
@@ -12,8 +12,8 @@ use Rattle.ob_seq.specs.Rows.{Settings}
 use Rattle.ob_seq.specs.declared.entry.Entry.{Entry}
 
 -- what was opened, the marks in force, the entries in line and those that no flush has reached, each oldest first and
--- with whether its promise was taken back, the word, whether it is closed, and how many entries there may be before memory is
--- taken for one more
+-- with whether its promise was taken back, the word, whether it is closed, how many entries there may be before memory is
+-- taken for one more, and for how many memory is held
 pub record Unsent : Type 0 where
   pub settings : Settings
   pub marks : Marks
@@ -22,8 +22,9 @@ pub record Unsent : Type 0 where
   pub word : ℕ
   pub closed : Bool
   pub room : ℕ
+  pub capacity : ℕ
 
--- nothing, as after the opening, and no room
+-- nothing, as after the opening, and no memory
 abbrev pub nothing_unsent : Settings → Unsent
 nothing_unsent settings = record {
   settings = settings;
@@ -33,6 +34,7 @@ nothing_unsent settings = record {
   word = 0;
   closed = false;
   room = 0;
+  capacity = 0;
 }
 
 -- how many messages wait
@@ -89,23 +91,49 @@ ended outcome entry = if entry.taken_back then Cancelled else outcome
 abbrev pub spares : Unsent → Bool
 spares unsent = nat_lt (waiting_count unsent) unsent.room
 
--- the room for one more than these, if there was room for *n*: as much if one place is to spare, and else for as many
--- again, but for 8 more at least and for 64 more at most
+-- the room for *n* once it was doubled: for 8 more at least, and in eights
+abbrev pub doubled_room : ℕ → ℕ
+doubled_room count = (count + max 8 count + 7) / 8 * 8
+
+-- the room for one more than these, if there was room for *n*: as much if one place is to spare, else the double of fewer than
+-- 128, and for 128 more of others
 abbrev pub grown_room : ℕ → ℕ → ℕ
-grown_room count room = if nat_lt count room then room else count + max 8 (min 64 count)
+grown_room count room = if nat_lt count room then room else if nat_lt count 128 then doubled_room count else count + 128
 
 -- for how many messages it has room once it takes in one more
 abbrev pub room_for_one_more : Unsent → ℕ
 room_for_one_more unsent = grown_room (waiting_count unsent) unsent.room
 
+-- for how many entries memory may be held at most beside those for which there is room: the places in front that were left
+abbrev pub most_left_behind : ℕ
+most_left_behind = 256
+
+-- memory is held for those for which there is room and for few more, and for no more if nothing waits
+pub record HoldsLittleMore (unsent : Unsent) : Type 0 where
+  pub room : unsent.room ≤ unsent.capacity
+  pub few : unsent.capacity ≤ unsent.room + most_left_behind
+  pub empty : waiting_count unsent ≡ 0 → unsent.capacity ≡ unsent.room
+
+-- some that waited are gone: there may be less room, but no place to spare is lost, and no memory is taken
+pub record LeavesRoom (old new : Unsent) : Type 0 where
+  pub less : new.room ≤ old.room
+  pub spare : old.room + waiting_count new ≤ new.room + waiting_count old
+  pub memory : new.capacity ≤ old.capacity
+
+-- all is as it was but for the room and the memory
+abbrev pub KeepsAll : Unsent → Unsent → Type 0
+KeepsAll old new = new ≡ record old { room = new.room; capacity = new.capacity }
+
 -- all is as it was, but there may be less room, and there is none if it is closed and nothing waits
 pub record GivesBack (old new : Unsent) : Type 0 where
-  pub same : new ≡ record old { room = new.room }
+  pub same : KeepsAll old new
   pub less : new.room ≤ old.room
+  pub memory : new.capacity ≤ old.capacity
   pub closed : old.closed ≡ true → waiting_count old ≡ 0 → new.room ≡ 0
 
 -- all is as it was, but there may be less room, and there is none if nothing waits
 pub record Shrinks (old new : Unsent) : Type 0 where
-  pub same : new ≡ record old { room = new.room }
+  pub same : KeepsAll old new
   pub less : new.room ≤ old.room
+  pub memory : new.capacity ≤ old.capacity
   pub empty : waiting_count old ≡ 0 → new.room ≡ 0

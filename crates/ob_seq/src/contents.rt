@@ -2,7 +2,7 @@ ghost use Rattle.std.specs.Prelude.{◌≡◌, ◌≤◌, [], length};
 ghost use Rattle.ob_types.specs.Limits.{greatest_overhead, greatest_unknown};
 ghost use Rattle.ob_seq.specs.Inside.{unsent_of, IsSound};
 ghost use Rattle.ob_seq.specs.Steps.Step.{pending_total};
-ghost use Rattle.ob_seq.specs.Unsent.{Unsent, nothing_unsent, whole, waiting_count};
+ghost use Rattle.ob_seq.specs.Unsent.{HoldsLittleMore, Unsent, nothing_unsent, spares, whole, waiting_count};
 
 mod cut;
 mod flush;
@@ -121,6 +121,24 @@ impl Contents {
         ensures { result ≡ self.now.room }
     {
         self.entries.room()
+    }
+
+    /// Whether there is a place for one more entry.
+    #[inline(always)]
+    pub fn has_place(&self) -> bool
+        ensures { result ≡ spares self.now }
+    {
+        self.entries.has_place()
+    }
+
+    /// For how many entries memory is held, of 64 bytes each: for those for which there is room, and for 256 more at most, since
+    /// the places of entries that are gone stay in front of those that share a segment with them. If nothing waits it is for
+    /// no more than there is room for. The list of the segments is not counted.
+    pub fn capacity(&self) -> usize
+        ensures value { result ≡ self.now.capacity }
+        ensures little_more { HoldsLittleMore self.now }
+    {
+        self.entries.capacity()
     }
 
     /// The bytes that are pending.

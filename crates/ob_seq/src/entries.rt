@@ -5,8 +5,10 @@ ghost use Rattle.std.specs.Option.{option_to_list};
 ghost use Rattle.std.specs.Borrow.{sem};
 ghost use Rattle.ob_seq.specs.Lent.{LendsEntry};
 ghost use Rattle.std.specs.VecDeque.{deque_capacity, deque_len};
-ghost use Rattle.ob_seq.specs.Unsent.{grown_room};
-ghost use Rattle.ob_seq.specs.Laid.{AreBehind, IsAdded, IsFoundIn, entries_of};
+ghost use Rattle.ob_types.specs.Limits.{greatest_total};
+ghost use Rattle.ob_seq.specs.Unsent.{doubled_room, grown_room, most_left_behind};
+ghost use Rattle.ob_seq.specs.Inside.{counted};
+ghost use Rattle.ob_seq.specs.Laid.{AreBehind, IsAdded, IsFoundIn, capacity_of, entries_of, most_segments, segment_room};
 
 use crate::entry::Entry;
 use std::alloc::{AllocError, Global};
@@ -15,18 +17,18 @@ use std::marker::Model;
 use std::mem;
 
 /// How many entries a segment has.
-const SEGMENT: usize = 64;
+const SEGMENT: usize = 128;
 
 /// How many segments lie before the last at most: no memory has as many.
 const MOST_SEGMENTS: usize = 281474976710656;
 
-/// For how many entries more the ring grows at least.
+/// For how many entries more the ring grows at least, and of which its places are a multiple then.
 const LEAST_ROOM: usize = 8;
 
 /// Entries, oldest first.
 ///
-/// While few wait they all lie in one ring, which doubles. Once 64 wait and it is full, it becomes a segment, and so does each
-/// further one of 64 entries (4 KiB). So none is moved however many wait, and each segment is freed when its last entry is gone.
+/// While few wait they all lie in one ring, which doubles. Once 128 wait and it is full, it becomes a segment, and so does each
+/// further one of 128 entries (8 KiB). So none is moved however many wait, and each segment is freed when its last entry is gone.
 ///
 /// ```text
 ///     more                                        last
@@ -40,7 +42,7 @@ pub(crate) struct Entries {
     last: VecDeque<Entry>,
     /// How many lie in the segments before it.
     ahead: usize,
-    /// Those segments: each has 64 entries, but for the first, which gives them away.
+    /// Those segments: each has 128 entries, but for the first, which gives them away.
     more: VecDeque<VecDeque<Entry>>,
 }
 
@@ -61,6 +63,7 @@ impl Entries {
     pub fn new(alloc: Global) -> Entries
         ensures items { result.items ≡ [] }
         ensures room { result.room ≡ 0 }
+        ensures memory { result.capacity ≡ 0 }
     {
         let mut last = VecDeque::new(alloc);
         // It has none, and a contract can say so only of a shrunk one.
@@ -91,6 +94,24 @@ impl Entries {
         self.ahead + self.last.capacity()
     }
 
+    /// Whether there may be one more before memory is taken.
+    #[inline(always)]
+    pub fn has_place(&self) -> bool
+        ensures { result ≡ nat_lt (length self.now.items) self.now.room }
+    {
+        self.last.len() < self.last.capacity()
+    }
+
+    /// For how many memory is held: for those for which there is room, and for some in front that are gone.
+    pub fn capacity(&self) -> usize
+        ensures value { result ≡ self.now.capacity }
+        ensures room { self.now.room ≤ self.now.capacity }
+        ensures few { self.now.capacity ≤ self.now.room + most_left_behind }
+        ensures empty { length self.now.items ≡ 0 → self.now.capacity ≡ self.now.room }
+    {
+        capacity_of(&self.more) + self.last.capacity()
+    }
+
     /// The newest; none if the last segment has none yet. No clause says where it lies.
     pub fn newest(&self) -> Option<&Entry> {
         self.last.back()
@@ -102,7 +123,8 @@ impl Entries {
         ensures items { self.new.items ≡ self.old.items }
         ensures room { OnOk result (self.new.room ≡ grown_room (length self.old.items) self.old.room) }
         ensures ok { OnOk result (length self.new.items < self.new.room) }
-        ensures err { OnErr result (self.new.room ≡ self.old.room) }
+        ensures memory { OnOk result (self.new.capacity + self.old.room ≡ self.old.capacity + self.new.room) }
+        ensures err { OnErr result (self.new ≡ self.old) }
         ensures spares { length self.old.items < self.old.room → IsOk result }
     {
         if self.last.len() < self.last.capacity() {
@@ -111,19 +133,20 @@ impl Entries {
         self.grow()
     }
 
-    /// Makes places for as many again as there are, but for 8 at least and for 64 at most.
+    /// Makes places for as many again as there are if they are fewer than 128, and else for 128.
     // It is rare: apart, a write saves no registers for it.
     #[cold]
     #[inline(never)]
     fn grow(&mut self) -> Result<(), AllocError>
         requires { self.old.room ≡ length self.old.items }
         ensures items { self.new.items ≡ self.old.items }
-        ensures ok { OnOk result (self.new.room ≡ length self.old.items + max 8 (min 64 (length self.old.items))) }
-        ensures err { OnErr result (self.new.room ≡ self.old.room) }
+        ensures ok { OnOk result (self.new.room ≡ grown_room (length self.old.items) self.old.room) }
+        ensures memory { OnOk result (self.new.capacity + self.old.room ≡ self.old.capacity + self.new.room) }
+        ensures err { OnErr result (self.new ≡ self.old) }
     {
         let count = self.last.len();
         if self.ahead == 0 && count < SEGMENT {
-            return self.last.reserve_exact(count.max(LEAST_ROOM));
+            return self.last.reserve_exact(doubled(count) - count);
         }
         add_segment(&mut self.last, &mut self.more)?;
         self.ahead += count;
@@ -136,6 +159,7 @@ impl Entries {
         requires { length self.old.items < self.old.room }
         ensures items { self.new.items ≡ self.old.items ++ entry ∷ [] }
         ensures room { self.new.room ≡ self.old.room }
+        ensures memory { self.new.capacity ≡ self.old.capacity }
     {
         self.last.push_back_reserved(entry);
     }
@@ -147,6 +171,8 @@ impl Entries {
         ensures variant { IsSome result ↔ (0 < length self.old.items) }
         ensures rest { self.new.items ≡ drop 1 self.old.items }
         ensures room { self.new.room ≤ self.old.room }
+        ensures spare { self.old.room ≤ self.new.room + 1 }
+        ensures memory { self.new.capacity ≤ self.old.capacity }
     {
         if self.ahead == 0 {
             return self.last.pop_front();
@@ -155,10 +181,56 @@ impl Entries {
         pop_ahead(&mut self.more)
     }
 
+    /// Takes the first `count` away, and returns the bytes that they count together. It goes over them once, segment by segment.
+    pub fn take_first(&mut self, count: usize) -> u32
+        requires within { count ≤ length self.old.items }
+        requires fits { counted self.old.items ≤ greatest_total }
+        ensures items { self.new.items ≡ drop count self.old.items }
+        ensures counted { result + counted self.new.items ≡ counted self.old.items }
+        ensures room { self.new.room ≤ self.old.room }
+        ensures spare { self.old.room ≤ self.new.room + count }
+        ensures memory { self.new.capacity ≤ self.old.capacity }
+    {
+        let mut left = count;
+        let mut size = 0;
+        while left > 0 {
+            let taken = self.take_some(left);
+            left -= taken.count;
+            size += taken.size;
+        }
+        size
+    }
+
+    /// Takes away those of the first `count` that lie in one segment.
+    fn take_some(&mut self, count: usize) -> Taken
+        requires some { 0 < count }
+        requires within { count ≤ length self.old.items }
+        requires fits { counted self.old.items ≤ greatest_total }
+        ensures some { 0 < result.count }
+        ensures within { result.count ≤ count }
+        ensures items { self.new.items ≡ drop result.count self.old.items }
+        ensures counted { result.size + counted self.new.items ≡ counted self.old.items }
+        ensures room { self.new.room ≤ self.old.room }
+        ensures spare { self.old.room ≤ self.new.room + result.count }
+        ensures memory { self.new.capacity ≤ self.old.capacity }
+    {
+        if self.ahead == 0 {
+            return Taken {
+                count,
+                size: take_of(&mut self.last, count),
+            };
+        }
+        let taken = take_ahead(&mut self.more, count);
+        self.ahead -= taken.count;
+        taken
+    }
+
     /// Takes all away, and keeps the last segment.
     pub fn clear(&mut self)
         ensures items { self.new.items ≡ [] }
         ensures room { self.new.room ≤ self.old.room }
+        ensures spare { self.old.room ≤ self.new.room + length self.old.items }
+        ensures memory { self.new.capacity ≤ self.old.capacity }
     {
         self.last.clear();
         self.more.clear();
@@ -172,6 +244,7 @@ impl Entries {
     pub fn give_back(&mut self, kept: usize)
         ensures items { self.new.items ≡ self.old.items }
         ensures less { self.new.room ≤ self.old.room }
+        ensures memory { self.new.capacity ≤ self.old.capacity }
         ensures none { kept ≡ 0 → length self.old.items ≡ 0 → self.new.room ≡ 0 }
     {
         let room = self.last.capacity();
@@ -184,6 +257,7 @@ impl Entries {
     pub fn shrink_to_fit(&mut self)
         ensures items { self.new.items ≡ self.old.items }
         ensures less { self.new.room ≤ self.old.room }
+        ensures memory { self.new.capacity ≤ self.old.capacity }
         ensures none { length self.old.items ≡ 0 → self.new.room ≡ 0 }
     {
         if self.ahead == 0 {
@@ -231,6 +305,29 @@ impl Entries {
     }
 }
 
+/// How many places a full ring of `count` has once it was doubled: 8 more at least, and in eights, so that one that gave memory
+/// back grows as it did before.
+fn doubled(count: usize) -> usize
+    requires { count < segment_room }
+    ensures value { result ≡ doubled_room count }
+    ensures more { count < result }
+    ensures few { result ≤ most_left_behind }
+{
+    (count + count.max(LEAST_ROOM) + LEAST_ROOM - 1) / LEAST_ROOM * LEAST_ROOM
+}
+
+/// For how many entries these segments have memory.
+fn capacity_of(more: &VecDeque<VecDeque<Entry>>) -> usize
+    requires behind { AreBehind more.now.items }
+    requires few { length more.now.items ≤ most_segments }
+    ensures { result ≡ capacity_of more.now.items }
+{
+    match more.front() {
+        Some(first) => first.capacity() + (more.len() - 1) * SEGMENT,
+        None => 0,
+    }
+}
+
 /// In which of these segments the entry at this place lies, and where there.
 fn found_in(more: &VecDeque<VecDeque<Entry>>, place: usize) -> (usize, usize)
     requires behind { AreBehind more.now.items }
@@ -273,7 +370,7 @@ fn keep_room(ring: &mut VecDeque<Entry>, kept: usize)
     ring.shrink_to(kept.max(twice));
 }
 
-/// Puts the last segment behind those before it, and an empty one for 64 in its place. If that fails, all is as it was.
+/// Puts the last segment behind those before it, and an empty one for 128 in its place. If that fails, all is as it was.
 fn add_segment(
     last: &mut VecDeque<Entry>,
     more: &mut VecDeque<VecDeque<Entry>>,
@@ -291,6 +388,88 @@ fn add_segment(
     Ok(())
 }
 
+/// Some of the first entries, which were taken away.
+#[derive(Clone, Copy)]
+struct Taken {
+    /// How many they were.
+    count: usize,
+    /// The bytes that they count together.
+    size: u32,
+}
+
+/// Takes away those of the first `count` entries of some segments that lie in the first segment.
+fn take_ahead(more: &mut VecDeque<VecDeque<Entry>>, count: usize) -> Taken
+    requires behind { AreBehind more.old.items }
+    requires there { 0 < length more.old.items }
+    requires some { 0 < count }
+    requires fits { counted (entries_of more.old.items) ≤ greatest_total }
+    ensures some { 0 < result.count }
+    ensures within { result.count ≤ count }
+    ensures items { entries_of more.new.items ≡ drop result.count (entries_of more.old.items) }
+    ensures there { result.count ≤ length (entries_of more.old.items) }
+    ensures counted { result.size + counted (entries_of more.new.items) ≡ counted (entries_of more.old.items) }
+    ensures behind { AreBehind more.new.items }
+    ensures fewer { length more.new.items ≤ length more.old.items }
+    ensures memory { capacity_of more.new.items ≤ capacity_of more.old.items }
+{
+    let segment = &mut more[0];
+    let count = count.min(segment.len());
+    let size = take_of(segment, count);
+    if segment.is_empty() {
+        drop_first(more);
+    }
+    Taken { count, size }
+}
+
+/// Takes the first `count` of a segment away, and returns the bytes that they count together.
+fn take_of(segment: &mut VecDeque<Entry>, count: usize) -> u32
+    requires within { count ≤ deque_len segment.old }
+    requires fits { counted segment.old.items ≤ greatest_total }
+    ensures items { segment.new.items ≡ drop count segment.old.items }
+    ensures len { deque_len segment.new + count ≡ deque_len segment.old }
+    ensures capacity { deque_capacity segment.new ≡ deque_capacity segment.old }
+    ensures counted { result + counted segment.new.items ≡ counted segment.old.items }
+{
+    if count < segment.len() {
+        return take_few(segment, count);
+    }
+    let (front, back) = segment.as_slices();
+    let size = counted(front) + counted(back);
+    segment.clear();
+    size
+}
+
+/// The same, one by one.
+fn take_few(segment: &mut VecDeque<Entry>, count: usize) -> u32
+    requires within { count ≤ deque_len segment.old }
+    requires fits { counted segment.old.items ≤ greatest_total }
+    ensures items { segment.new.items ≡ drop count segment.old.items }
+    ensures len { deque_len segment.new + count ≡ deque_len segment.old }
+    ensures capacity { deque_capacity segment.new ≡ deque_capacity segment.old }
+    ensures counted { result + counted segment.new.items ≡ counted segment.old.items }
+{
+    let mut size = 0;
+    for _ in 0..count {
+        let Some(entry) = segment.pop_front() else {
+            unreachable!();
+        };
+        size += entry.size;
+    }
+    size
+}
+
+/// The bytes that some entries count together.
+fn counted(run: &[Entry]) -> u32
+    requires { counted run.now ≤ greatest_total }
+    ensures { result ≡ counted run.now }
+{
+    let mut size = 0;
+    for entry in run {
+        size += entry.size;
+    }
+    size
+}
+
 /// Takes the oldest entry of some segments away.
 #[inline(always)]
 fn pop_ahead(more: &mut VecDeque<VecDeque<Entry>>) -> Option<Entry>
@@ -300,6 +479,7 @@ fn pop_ahead(more: &mut VecDeque<VecDeque<Entry>>) -> Option<Entry>
     ensures some { IsSome result }
     ensures behind { AreBehind more.new.items }
     ensures fewer { length more.new.items ≤ length more.old.items }
+    ensures memory { capacity_of more.new.items ≤ capacity_of more.old.items }
 {
     let segment = &mut more[0];
     let entry = segment.pop_front();

@@ -4,6 +4,7 @@ ghost use Rattle.std.specs.Prelude.{◌≡◌, ℕ, List, length, Some};
 ghost use Rattle.ob_types.specs.declared.command.Command.TheVariants.{Write};
 ghost use Rattle.ob_types.specs.declared.message.Message.TheVariants.{Block};
 ghost use Rattle.ob_seq.specs.State.{marks_after, writable_after, empty_after, closed_after};
+ghost use Rattle.ob_seq.specs.Unsent.{HoldsLittleMore, spares};
 ghost use Rattle.ob_connection.specs.Connected.{room_in, Gives};
 ghost use Rattle.ob_connection.specs.Connected.{Refuses, Shows, Tells, unflushed_count_after, waiting_count_after};
 
@@ -60,12 +61,30 @@ impl Connection {
     }
 
     /// How many messages may wait before memory is taken for one more. A message takes one place of 64 bytes as long as it
-    /// waits. A write takes memory for places only if none is left, and then for as many again, but for 8 more at least and for
-    /// 64 more at most. It does not allocate. Our own; Rust's `capacity`.
+    /// waits. A write takes memory for places only if none is left: if fewer than 128 wait for as many again, for 8 more at
+    /// least and in eights, and else for 128 more. It does not allocate. Our own.
     pub fn room(&self) -> usize
         ensures { result ≡ room_in self.now }
     {
         self.contents.room()
+    }
+
+    /// Whether a place is left for one more message, so that `write` is not out of memory. It does not allocate. Our own.
+    #[inline(always)]
+    pub fn has_place(&self) -> bool
+        ensures { result ≡ spares self.now.unsent }
+    {
+        self.contents.has_place()
+    }
+
+    /// For how many messages it holds places of 64 bytes: for those for which there is room, and for 256 more at most, which are
+    /// left by messages that are gone. If nothing waits it is as much as there is room for. It does not allocate. Our own; Rust's
+    /// `capacity`.
+    pub fn capacity(&self) -> usize
+        ensures value { result ≡ self.now.unsent.capacity }
+        ensures little_more { HoldsLittleMore self.now.unsent }
+    {
+        self.contents.capacity()
     }
 
     /// The marks in force: those of the last `set_marks`, and before it those of the opening. It does not allocate.

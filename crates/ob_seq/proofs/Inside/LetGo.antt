@@ -1,7 +1,7 @@
 -- What entries settle that are taken away, how messages end that leave one after the other, and that a call which lets
 -- several go makes its step.
 use Rattle.std.proofs.Common.{add-one}
-use Rattle.std.proofs.lemmas.List.{nil_from_length, take-append-le, take-take, drop_more, get_or-map, get_or-drop, get_or-take}
+use Rattle.std.proofs.lemmas.List.{nil_from_length, length-take, take-append-le, take-take, drop_more, get_or-map, get_or-drop, get_or-take}
 use Rattle.std.proofs.lemmas.List.Sums.{count_by-le-length}
 use Rattle.std.specs.Prelude.{replicate, Ok}
 use Rattle.ob_types.specs.declared.refusal.Refusal.TheVariants.{FlushedLeft}
@@ -14,7 +14,7 @@ use Rattle.ob_seq.proofs.Words.{pending_entry, unflushed_id, unreached_entry, Pe
 use Rattle.ob_seq.proofs.Words.{waiting_state, whole, false, ended, Block, Cancelled, if◌then◌else◌, true, take-map}
 use Rattle.ob_seq.proofs.Words.{nat_tests, Option, Some, None, Cut, Count, Refusal, Success, TooManyBytes, bytes_in}
 use Rattle.ob_seq.proofs.Words.{blocks_left, change_between, closed_pending, cut_of, failing_step, front_taken, ltb}
-use Rattle.ob_seq.proofs.Words.{times, whole_cut, ◌-◌, Marks, Settings, counted, word_after_fall}
+use Rattle.ob_seq.proofs.Words.{times, whole_cut, ◌-◌, zero, Marks, Settings, counted, sum_by-append, word_after_fall}
 use Rattle.ob_seq.proofs.Inside.States.{kept_taken, unsent_from}
 use Rattle.ob_seq.specs.Unsent.{all_entries}
 use Rattle.ob_seq.proofs.Inside.Rooms.{fresh_states, front_id_there, promises_there}
@@ -156,7 +156,7 @@ still_clear : (word : ℕ) → with_mark false (with_mark false word) ≡ with_m
 still_clear word = omega arith
 
 -- a fall in two steps turns it as one does
-pub falls_on : (marks : Marks) (notice : Bool) (word from between size : ℕ) → between ≤ from → size ≤ between →
+falls_on : (marks : Marks) (notice : Bool) (word from between size : ℕ) → between ≤ from → size ≤ between →
     word_fallen marks notice word from (between - size)
     ≡ cond notice (word_after_fall marks (word_fallen marks notice word from between) size (between - size))
     (word_fallen marks notice word from between)
@@ -173,7 +173,7 @@ module _ (settings : Settings) (marks : Marks) (closed notice : Bool) (first ite
       sym (ap (λ (left : List Entry). get_or left 0 no_entry) is)
       ∙ get_or-drop n first 0 no_entry ∙ rw (add-zero) (sym (get_or-take flushed first n no_entry before))
 
-  pub one_more_taken : (gone : List Outcome) (outcome : Outcome) (old : Pending) → n < length (take flushed first) →
+  one_more_taken : (gone : List Outcome) (outcome : Outcome) (old : Pending) → n < length (take flushed first) →
       whole (gone ++ map (ended outcome) (take n (take flushed first)))
       (unsent_from settings marks closed (take (flushed - n) (entry ∷ items)) (drop (flushed - n) (entry ∷ items)) word)
       ≡ times n (front_taken notice outcome) old →
@@ -187,6 +187,44 @@ module _ (settings : Settings) (marks : Marks) (closed notice : Bool) (first ite
       rw (← left, next, add-one)
       (kept_taken (gone ++ map (ended outcome) (take n (take flushed first))) settings marks closed notice outcome entry items
       (flushed - n) word word' some falls ∙ ap (front_taken notice outcome) so_far)
+
+-- what falls with the first of some entries is what they count, and what is left counts the rest
+pub counted_parts : (n : ℕ) (entries : List Entry) → counted (take n entries) + counted (drop n entries) ≡ counted entries
+counted_parts n entries =
+    sym (sum_by-append (λ (one : Entry). one.size) (take n entries) (drop n entries)) ∙ ap counted (take-append-drop n entries)
+
+-- several are taken off the line, one after the other
+module _ (settings : Settings) (marks : Marks) (closed notice : Bool) (first : List Entry) (flushed word : ℕ)
+    (gone : List Outcome) (outcome : Outcome) where
+  abbrev word_after : ℕ → ℕ
+  word_after n = word_fallen marks notice word (counted first) (counted (drop n first))
+
+  abbrev pub left_behind : ℕ → Unsent
+  left_behind n =
+      unsent_from settings marks closed (take (flushed - n) (drop n first)) (drop (flushed - n) (drop n first)) (word_after n)
+
+  pub all_taken : (n : ℕ) → n ≤ length (take flushed first) →
+      whole (gone ++ map (ended outcome) (take n (take flushed first))) (left_behind n)
+      ≡ times n (front_taken notice outcome)
+      (whole gone (unsent_from settings marks closed (take flushed first) (drop flushed first) word))
+  all_taken zero few = grind (arith, append-nil, nat_tests)
+  all_taken (suc n) few =
+      let entry = get_or first n no_entry in
+      let items = drop (n + 1) first in
+      let line : n < flushed = omega (arith, few, length-take flushed first) in
+      let within : n < length first = omega (arith, few, length-take flushed first) in
+      let is : drop n first ≡ entry ∷ items = drop_more first n no_entry within in
+      let all : counted (drop n first) ≡ counted (entry ∷ items) = ap counted is in
+      let sum = sum_by-cons (λ (one : Entry). one.size) entry items in
+      let less : counted (entry ∷ items) ≤ counted first = omega (arith, all, counted_parts n first) in
+      let some : entry.size ≤ counted (entry ∷ items) = omega (arith, sum) in
+      let left : counted items ≡ counted (entry ∷ items) - entry.size = omega (arith, sum) in
+      let falls = ap (λ (total : ℕ). word_fallen marks notice word (counted first) total) left
+      ∙ falls_on marks notice word (counted first) (counted (entry ∷ items)) entry.size less some in
+      rw add-one at (one_more_taken settings marks closed notice first items flushed n entry
+      (word_fallen marks notice word (counted first) (counted (entry ∷ items))) (word_after (n + 1)) line is falls gone outcome
+      (whole gone (unsent_from settings marks closed (take flushed first) (drop flushed first) word)) (omega (arith, few))
+      (rw is at (all_taken n (omega (arith, few)))))
 
 -- what stands in line leaves first
 pub first_in_line : (outcome : Outcome) (count : ℕ) (line unflushed : List Entry) → count ≤ length line →

@@ -39,7 +39,16 @@ same_pending settings marks closed l u p w = cc
 -- what waits, by its parts
 abbrev pub unsent_from : Settings → Marks → Bool → List Entry → List Entry → ℕ → Unsent
 unsent_from settings marks closed line unflushed word =
-    record { settings = settings; marks = marks; line = line; unflushed = unflushed; word = word; closed = closed; room = 0 }
+    record {
+      settings = settings;
+      marks = marks;
+      line = line;
+      unflushed = unflushed;
+      word = word;
+      closed = closed;
+      room = 0;
+      capacity = 0;
+    }
 
 -- of which promise a flush asks next
 next_asked : (before rest : List PromiseState) (state : PromiseState) (old : Pending) →

@@ -31,6 +31,7 @@ impl Contents {
             whole gone self.new ≡ times (length self.old.unflushed) next_flushed (whole gone self.old) }
         ensures as_many { waiting_count self.new ≡ waiting_count self.old }
         ensures room { self.new.room ≡ self.old.room }
+        ensures memory { self.new.capacity ≡ self.old.capacity }
     {
         if self.any_taken_back {
             self.flush_one_by_one();
@@ -47,6 +48,7 @@ impl Contents {
         ensures after { (gone : List Outcome) →
             whole gone self.new ≡ times (length self.old.unflushed) next_flushed (whole gone self.old) }
         ensures room { self.new.room ≡ self.old.room }
+        ensures memory { self.new.capacity ≡ self.old.capacity }
     {
         for _ in 0..self.unflushed_count() {
             self.flush_next();
@@ -60,6 +62,7 @@ impl Contents {
         requires { 0 < length self.old.unflushed }
         ensures after { (gone : List Outcome) → whole gone self.new ≡ next_flushed (whole gone self.old) }
         ensures room { self.new.room ≡ self.old.room }
+        ensures memory { self.new.capacity ≡ self.old.capacity }
     {
         if self.entries.at(self.flushed).taken_back {
             let size = void(self.entries.at_mut(self.flushed));

@@ -61,6 +61,7 @@ impl Contents {
             whole gone self.new ≡ front_changed (progressed_entry n) (whole gone self.old) }
         ensures as_many { waiting_count self.new ≡ waiting_count self.old }
         ensures room { self.new.room ≡ self.old.room }
+        ensures memory { self.new.capacity ≡ self.old.capacity }
     {
         tell(self.entries.at_mut(0), n);
     }
@@ -70,6 +71,7 @@ impl Contents {
         requires { n ≤ first_length (pending_entries self.old.line) }
         ensures after { (gone : List Outcome) → whole gone self.new ≡ front_skipped n (whole gone self.old) }
         ensures room { self.new.room ≡ self.old.room }
+        ensures memory { self.new.capacity ≡ self.old.capacity }
     {
         if n > 0 {
             skip(self.entries.at_mut(0), n);

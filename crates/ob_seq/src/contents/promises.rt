@@ -64,6 +64,7 @@ impl Contents {
         ensures frugal { ¬ IsErrOf result Refusal.NoMemory }
         ensures refused { OnErr result (self.new ≡ self.old) }
         ensures room { self.new.room ≡ self.old.room }
+        ensures memory { self.new.capacity ≡ self.old.capacity }
     {
         if self.closed {
             return Err(Refusal::Closed);
@@ -89,6 +90,7 @@ impl Contents {
         ensures after { (gone : List Outcome) →
             whole gone self.new ≡ promise_set (length gone + place) (Settled Cancelled) (whole gone self.old) }
         ensures room { self.new.room ≡ self.old.room }
+        ensures memory { self.new.capacity ≡ self.old.capacity }
     {
         self.entries.at_mut(place).taken_back = true;
         self.any_taken_back = true;

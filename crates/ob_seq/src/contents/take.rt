@@ -7,7 +7,7 @@ ghost use Rattle.ob_seq.specs.Answer.{told_by};
 ghost use Rattle.ob_seq.specs.Steps.Step.{is_first_voided, Makes};
 ghost use Rattle.ob_seq.specs.Steps.Commands.{closed_pending, first_length, front_taken, removal_step};
 ghost use Rattle.ob_seq.specs.Steps.Within.{TakesCut, TakesFirst, front_endings, front_reply};
-ghost use Rattle.ob_seq.specs.Unsent.{ended, pending_entries, waiting_count, whole};
+ghost use Rattle.ob_seq.specs.Unsent.{LeavesRoom, ended, pending_entries, waiting_count, whole};
 
 use crate::contents::{Contents, Cut, word};
 use ob_types::{Change, Outcome, Refusal};
@@ -44,7 +44,7 @@ impl Contents {
         ensures fewer { waiting_count self.old ≡ waiting_count self.new + length (front_endings Cancelled result) }
         ensures frugal { ¬ IsErrOf result Refusal.NoMemory }
         ensures refused { OnErr result (self.new ≡ self.old) }
-        ensures room { self.new.room ≤ self.old.room }
+        ensures room { LeavesRoom self.old self.new }
     {
         if self.closed {
             return Err(Refusal::Closed);
@@ -68,7 +68,8 @@ impl Contents {
         ensures taken { (gone : List AnOutcome) (outcome : AnOutcome) →
             whole (gone ++ (if result then outcome else Cancelled) ∷ []) self.new
             ≡ front_taken notice outcome (whole gone self.old) }
-        ensures room { self.new.room ≤ self.old.room }
+        ensures fewer { waiting_count self.old ≡ waiting_count self.new + 1 }
+        ensures room { LeavesRoom self.old self.new }
     {
         let Some(entry) = self.entries.pop_front() else {
             return false;
@@ -80,23 +81,15 @@ impl Contents {
     }
 
     /// Takes the first `count` in line away. Without notice the word stays.
-    // The total and the word are told at the end: else each entry waits for those of the one before it. What falls in steps
-    // turns the word as at once, since the last step ends lowest.
+    // The total and the word are told at the end. What falls in steps turns the word as at once, since the last step ends lowest.
     pub fn take_first(&mut self, count: usize, notice: bool)
         requires { count ≤ length self.old.line }
         ensures { TakesFirst count notice self.old self.new }
     {
-        let mut total = self.total;
-        for _ in 0..count {
-            let Some(entry) = self.entries.pop_front() else {
-                unreachable!();
-            };
-            total -= entry.size;
-        }
-        let fallen = self.total - total;
+        let fallen = self.entries.take_first(count);
         self.flushed -= count;
-        self.total = total;
-        self.word = word::after_removal(self.marks, self.word, fallen, total, notice);
+        self.total -= fallen;
+        self.word = word::after_removal(self.marks, self.word, fallen, self.total, notice);
     }
 
     /// Takes away what a removal of bytes does that ends there.
@@ -116,7 +109,7 @@ impl Contents {
         ensures closed { (gone : List AnOutcome) (cause : Cause) →
             whole (gone ++ map (ended (Failed cause)) self.old.unflushed) self.new
             ≡ closed_pending cause (whole gone self.old) }
-        ensures room { self.new.room ≤ self.old.room }
+        ensures room { LeavesRoom self.old self.new }
     {
         self.entries.clear();
         self.total = 0;

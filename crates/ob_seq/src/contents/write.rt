@@ -52,6 +52,7 @@ impl Contents {
             whole gone self.new ≡ written (whole gone self.old) message size) }
         ensures change { IfOk result (λ change. change ≡ change_between self.old.word self.new.word) }
         ensures room { OnOk result (self.new.room ≡ room_for_one_more self.old) }
+        ensures memory { OnOk result (self.new.capacity + self.old.room ≡ self.old.capacity + self.new.room) }
         ensures err { OnErr result (self.new ≡ self.old) }
         ensures spares { spares self.old ≡ true → IsOk result }
         ensures returned { IfErr result (λ returned. returned ≡ message) }

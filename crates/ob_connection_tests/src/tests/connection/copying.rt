@@ -127,10 +127,38 @@ fn room_is_taken_by_eights_and_given_back(rt: HostRuntime) -> Result<(), Fail> {
     connection.shrink_to_fit();
     assert_eq!(rt;
         (none, rooms, kept, connection.room()),
-        (0, [8, 8, 8, 8, 8, 8, 8, 8, 16], 8, 0)
+        (0, [8, 8, 8, 8, 8, 8, 8, 8, 16], 7, 0)
     );
     drop(connection);
     Ok(())
+}
+
+#[test]
+fn a_segment_is_freed_with_its_last_message(rt: HostRuntime) -> Result<(), Fail> {
+    let mut connection = open(rt.alloc())?;
+    assert!(rt; !connection.has_place());
+    for _ in 0..300 {
+        let _written = connection
+            .write(Message::Block(Bytes::new()))
+            .map_err(Refusal::from)?;
+    }
+    let _flushed = connection.flush()?;
+    // two segments of 128, and 44 in a third
+    let all = (connection.room(), connection.capacity());
+    let some = (removed(&mut connection, 100)?, connection.capacity());
+    let first = (removed(&mut connection, 28)?, connection.capacity());
+    assert_eq!(rt; (all, some, first), ((384, 384), (284, 384), (256, 256)));
+    assert!(rt; connection.has_place());
+    drop(connection);
+    Ok(())
+}
+
+/// Removes *n* messages, and returns the room that is left.
+fn removed(connection: &mut Connection, n: usize) -> Result<usize, Fail> {
+    for _ in 0..n {
+        let _removed = connection.remove()?;
+    }
+    Ok(connection.room())
 }
 
 #[test]

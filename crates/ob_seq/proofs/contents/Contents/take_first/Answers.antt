@@ -1,53 +1,44 @@
-use Rattle.std.proofs.lemmas.List.{drop-drop, length-take-le}
-use Rattle.ob_seq.proofs.Words.{[], ◌≡◌, ◌-◌, ◌++◌, ◌∷◌, ◌<◌, ◌≤◌, List, length, sym, ap, ◌∙◌, arith, map, take, drop, times, sum_by-cons}
-use Rattle.ob_seq.proofs.Words.{Entry, Inside, Outcome, Settings, Success, Unsent, counted, ended, front_taken, length-map, unsent_of, whole}
+use Rattle.std.proofs.lemmas.List.{length-take-le}
+use Rattle.ob_seq.proofs.Words.{[], ◌≡◌, ◌-◌, ◌++◌, ◌≤◌, ◌+◌, ℕ, List, length, ap, ◌∙◌, arith, map, take, drop, times}
+use Rattle.ob_seq.proofs.Words.{Outcome, Settings, Success, Unsent, counted, ended, front_taken, length-map, unsent_of, whole, cond, word_after_fall}
 use Rattle.ob_seq.proofs.Inside.Fields.{line_count}
-use Rattle.ob_seq.proofs.Inside.LetGo.{falls_on, one_more_taken, word_fallen}
+use Rattle.ob_seq.proofs.Inside.LetGo.{all_taken, word_fallen}
 use Rattle.ob_seq.proofs.Inside.Rooms.{fewer_waiting}
 use Rattle.ob_seq.proofs.contents.Contents.take_first.Goals as goal
 
-pub loop-preserved : goal.loop-preserved
-loop-preserved c =
-    let first = c.self.inside in
-    let old = c.args.self.now in
-    let settings : Settings = record { marks = first.opened; estimate = first.estimate } in
-    let counter = c.loop.counter in
-    let entry = c.in-Some.entry in
-    let items = c.pop_front.new.self.items in
-    let is : c.loop.self-inside.entries.items ≡ entry ∷ items = c.in-Some.ensures.items in
-    let left : drop counter first.entries.items ≡ entry ∷ items = sym c.loop.invariant.items ∙ is in
-    let line = line_count old first c.self.view_is c.self.invariant in
-    let line_is = ap (λ (held : Unsent). held.line) c.self.view_is in
-    let before : counter < first.flushed = omega (arith, c.loop-test.true, c.requires, line) in
-    let within : counter < length old.line = omega (arith, c.loop-test.true, c.requires) in
-    let sum : c.loop.total ≡ counted (entry ∷ items) = c.loop.invariant.total ∙ ap counted is in
-    let some : entry.size ≤ c.loop.total = omega (arith, sum, sum_by-cons (λ (one : Entry). one.size) entry items) in
-    let fallen = word_fallen first.marks c.args.notice first.word first.total in
-    let more = one_more_taken settings first.marks first.closed c.args.notice first.entries.items items first.flushed counter
-    entry (fallen c.loop.total) (fallen (c.loop.total - entry.size)) before left
-    (rw (← sum) (falls_on first.marks c.args.notice first.word first.total c.loop.total entry.size c.loop.invariant.less some)) in
-    record {
-      same = ap (λ (inside : Inside). record inside { entries = c.pop_front.new.self }) c.loop.invariant.same;
-      items = c.in-Some.ensures.rest ∙ ap (drop 1) c.loop.invariant.items ∙ drop-drop 1 counter first.entries.items;
-      less = omega (arith, c.loop.invariant.less);
-      total = omega (arith, sum, sum_by-cons (λ (one : Entry). one.size) entry items);
-      taken = λ gone outcome. rw (← c.self.view_is) (more gone outcome (whole gone (unsent_of first)) (rw line_is within)
-          (rw (← c.self.view_is, is) at (c.loop.invariant.taken gone outcome)));
-      room = omega (arith, c.in-Some.ensures.room, c.loop.invariant.room);
-    }
-
 pub returns : goal.returns
 returns c =
+    let inside = c.self.inside in
     let old = c.args.self.now in
+    let items = inside.entries.items in
     let count = c.args.count in
-    let all : c.loop.counter ≡ count = omega (arith, c.loop-test.false, c.loop.auto.counter-end) in
-    let same = c.loop.invariant.same in
-    let now : Unsent = unsent_of (record c.loop.self-inside { flushed = c.loop.self-inside.flushed - count; total = c.loop.total; word = c.after_removal-self-inside.result }) in
+    let notice = c.args.notice in
+    let took = c.take_first-fallen in
+    let settings : Settings = record { marks = inside.opened; estimate = inside.estimate } in
+    let word = word_fallen inside.marks notice inside.word (counted items) (counted (drop count items)) in
+    let now : Unsent = unsent_of (record inside { entries = took.new.self; flushed = inside.flushed - count; total = inside.total - took.result; word = c.after_removal-self-inside.result }) in
+    let line = line_count old inside c.self.view_is c.self.invariant in
+    let some : count ≤ length old.line = c.requires in
+    let left : took.result + counted (drop count items) ≡ counted items = rw took.ensures.items at took.ensures.counted in
+    let falls : c.after_removal-self-inside.result ≡ word =
+    c.after_removal-self-inside.ensures
+    ∙ ap (λ (size : ℕ). cond notice (word_after_fall inside.marks inside.word size (inside.total - took.result)) inside.word)
+    (omega (arith, left))
+    ∙ ap (λ (total : ℕ). word_fallen inside.marks notice inside.word (counted items) total)
+    (omega (arith, left, c.self.invariant.total)) in
     let taken : (gone : List Outcome) (outcome : Outcome) → whole (gone ++ map (ended outcome) (take count old.line)) now
-    ≡ times count (front_taken c.args.notice outcome) (whole gone old) =
-    λ gone outcome. rw (c.after_removal-self-inside.ensures, same, ← all) (c.loop.invariant.taken gone outcome) in
-    let many = length-map (take count old.line) (ended Success) ∙ length-take-le count old.line c.requires in record {
+    ≡ times count (front_taken notice outcome) (whole gone old) =
+    λ gone outcome. rw (← c.self.view_is, falls, took.ensures.items)
+    (all_taken settings inside.marks inside.closed notice items inside.flushed inside.word gone outcome count
+    (rw (← c.self.view_is) at some)) in
+    let many = length-map (take count old.line) (ended Success) ∙ length-take-le count old.line some in
+    let fewer = fewer_waiting notice Success count (map (ended Success) (take count old.line)) old now many (taken [] Success) in
+    record {
       taken = taken;
-      fewer = fewer_waiting c.args.notice Success count (map (ended Success) (take count old.line)) old now many (taken [] Success);
-      room = rw (← c.self.view_is) c.loop.invariant.room;
+      fewer = fewer;
+      room = record {
+        less = rw (← c.self.view_is) took.ensures.room;
+        spare = rw (← c.self.view_is) (omega (arith, took.ensures.spare, rw (← c.self.view_is) at fewer));
+        memory = rw (← c.self.view_is) took.ensures.memory;
+      };
     }
