@@ -966,10 +966,11 @@ struct limekeel_sent {
 
 /* Sends what is flushed to a stream socket, and takes away what the socket took: gather, sendmsg and take_sent,
  * turn by turn, until nothing is left, another message than a block is in front, the socket has no room, or
- * `max_turns` turns were made; one is made in any case. A turn offers at most LIMEKEEL_PIECES pieces, and blocks
- * that lie together in memory as one. It never waits, and a peer that is gone raises no signal. A socket that
- * took less than it was offered has no room. EINTR asks again, and EMSGSIZE with half as many pieces. Empty
- * messages in front are taken away in each case. It is in send.c, over the archive; it needs 16 KB of stack. */
+ * `max_turns` turns were made; one is made in any case. A turn offers blocks that lie together in memory as one
+ * piece: at most LIMEKEEL_PIECES pieces, of twice as many blocks. It never waits, and a peer that is gone raises no
+ * signal. A socket that took less than it was offered has no room. EINTR asks again, and EMSGSIZE with half as many
+ * pieces. Empty messages in front are taken away in each case. It is in send.c, over the archive; it needs 32 KB of
+ * stack. */
 LIMEKEEL_TOLD struct limekeel_sent limekeel_send(struct limekeel_connection *connection, int socket, uint32_t max_turns);
 
 /* The same of a managed connection, and whether the end is reached by it. */

@@ -5,8 +5,9 @@
  */
 #include "limekeel.h"
 
-/* How large the second of some chunks is at least, and each at most that was not asked for larger: as in the archive. */
-#define SMALL 1024u
+/* How large the second of some chunks is at least, and each at most that was not asked for larger: about as in the archive. With
+ * what stands before its bytes the second takes 1 KiB, of which glibc keeps some at hand. */
+#define SMALL (1024u - (uint32_t)sizeof(struct limekeel_chunk))
 #define LARGE 16384u
 
 /* Memory in which messages lie, one behind the other. */

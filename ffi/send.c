@@ -9,6 +9,9 @@
 
 #include "limekeel.h"
 
+/* How many blocks are gathered for one call at most: many small ones lie together, and are one slice then. */
+#define GATHERED (2 * LIMEKEEL_PIECES)
+
 static const uint8_t *end_of(const struct iovec *slice)
 {
     return (const uint8_t *)slice->iov_base + slice->iov_len;
@@ -44,7 +47,7 @@ static size_t bytes_in(const struct iovec *slices, size_t count)
  * LIMEKEEL_ENDED_DRAINED if the socket took all that it was offered. */
 static uint32_t offer(int socket, struct iovec *slices, size_t count, uint64_t *took, int *error)
 {
-    struct msghdr message = {.msg_iov = slices, .msg_iovlen = joined(slices, count)};
+    struct msghdr message = {.msg_iov = slices, .msg_iovlen = count};
     for (;;) {
         ssize_t sent = sendmsg(socket, &message, MSG_NOSIGNAL | MSG_DONTWAIT);
         if (sent >= 0) {
@@ -76,14 +79,21 @@ struct told {
     uint32_t pressure;
 };
 
-static size_t gather(struct source source, struct iovec *slices)
+static size_t gather_each(struct source source, struct iovec *slices, size_t most)
 {
     struct limekeel_piece *pieces = (struct limekeel_piece *)slices;
     if (source.managed)
-        return limekeel_managed_gather_pieces(source.managed, pieces, LIMEKEEL_PIECES, UINT32_MAX).count;
+        return limekeel_managed_gather_pieces(source.managed, pieces, most, UINT32_MAX).count;
     if (source.budgeted)
-        return limekeel_budgeted_gather_pieces(source.budgeted, pieces, LIMEKEEL_PIECES, UINT32_MAX).count;
-    return limekeel_gather_pieces(source.connection, pieces, LIMEKEEL_PIECES, UINT32_MAX).count;
+        return limekeel_budgeted_gather_pieces(source.budgeted, pieces, most, UINT32_MAX).count;
+    return limekeel_gather_pieces(source.connection, pieces, most, UINT32_MAX).count;
+}
+
+/* Fills slices with at most this many blocks in front, and returns how many slices they are: those that lie together are one. */
+static size_t gather(struct source source, struct iovec *slices, size_t most)
+{
+    size_t count = gather_each(source, slices, most);
+    return count > 0 ? joined(slices, count) : 0;
 }
 
 static bool is_empty(struct source source)
@@ -130,9 +140,12 @@ static struct told send_from(struct source source, int socket, uint32_t max_turn
 {
     struct told told = {0};
     struct limekeel_sent *sent = &told.sent;
+    size_t most = GATHERED;
     for (uint32_t turn = 1;; turn++) {
-        struct iovec slices[LIMEKEEL_PIECES];
-        size_t count = gather(source, slices);
+        struct iovec slices[GATHERED];
+        size_t count = gather(source, slices, most);
+        if (count > LIMEKEEL_PIECES)
+            count = most = LIMEKEEL_PIECES; /* they lie apart: no more of them go in the next turns */
         uint64_t took = 0;
         if (count > 0)
             sent->ending = offer(socket, slices, count, &took, &sent->error);

@@ -184,6 +184,24 @@ static void together_in_memory(void)
     closed(&connection);
 }
 
+/* More messages than the system takes slices go in one call, if few of them lie apart. */
+static void many_together(void)
+{
+    struct limekeel_connection connection = opened(1 << 20, 2 << 20);
+    size_t many = LIMEKEEL_PIECES + LIMEKEEL_PIECES / 2;
+    for (size_t at = 0; at < many; at++) {
+        uint8_t byte = (uint8_t)at;
+        expect("write", limekeel_write(&connection, &byte, 1).status == LIMEKEEL_OK);
+    }
+    expect("flush", limekeel_flush(&connection).count == many);
+    SCRIPT({0, 65536});
+    struct limekeel_sent sent = limekeel_send(&connection, -1, 8);
+    expect("all are sent at once", sent.ending == LIMEKEEL_ENDED_DRAINED && asked == 1 && offered_bytes == many);
+    for (size_t at = 0; at < took_bytes; at++)
+        expect("in order", took[at] == (uint8_t)at);
+    closed(&connection);
+}
+
 /* Parts are one message, few and many, and none. */
 static void parts(void)
 {
@@ -320,6 +338,7 @@ int main(void)
     turns(32768, 65536);   /* the second */
     turns(150000, 160000); /* the first */
     together_in_memory();
+    many_together();
     parts();
     other_messages();
     sockets();

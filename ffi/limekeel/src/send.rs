@@ -7,6 +7,9 @@ use std::io::{self, ErrorKind, IoSlice, Write};
 /// How many pieces one vectored write is given at most: as many as Linux takes.
 pub(crate) const PIECES: usize = sys::PIECES;
 
+/// How many blocks are gathered for it at most: many small ones lie together, and are one piece then.
+const GATHERED: usize = 2 * PIECES;
+
 /// What a connection sent at once.
 #[must_use = "nothing tells the change of writability or the settlements again"]
 #[derive(Clone, Debug, PartialEq, Eq)]
@@ -67,7 +70,7 @@ impl Connection {
     }
 
     /// The same for what is no [`Write`]: `write` is given the pieces, at most 1024, and returns how many of their bytes it
-    /// took, as a vectored write does. Messages that lie together in memory are one piece.
+    /// took, as a vectored write does. Of at most 2048 messages those that lie together in memory are one piece.
     pub fn send_with(&mut self, write: impl FnMut(&[IoSlice<'_>]) -> io::Result<usize>) -> io::Result<Sent> {
         once(self, write)
     }
@@ -153,7 +156,7 @@ pub(crate) fn once(
     source: &mut impl Source,
     mut write: impl FnMut(&[IoSlice<'_>]) -> io::Result<usize>,
 ) -> io::Result<Sent> {
-    let (bytes, blocked) = write_once(source, &mut write)?;
+    let (bytes, blocked) = write_once(source, &mut { GATHERED }, &mut write)?;
     // a closed connection has nothing to offer, so it is asked for that only then
     if bytes == 0 && !blocked && source.is_closed() {
         return Err(io::Error::new(ErrorKind::BrokenPipe, Refusal::Closed));
@@ -171,10 +174,10 @@ pub(crate) fn in_turns(
     write: &mut impl FnMut(&[IoSlice<'_>]) -> io::Result<usize>,
 ) -> Result<SentTurns, Refusal> {
     let mut taken = source.take(0)?;
-    let (mut bytes, mut turns) = (0, 0);
+    let (mut bytes, mut turns, mut most) = (0, 0, GATHERED);
     let ending = loop {
         turns += 1;
-        let took = write_once(source, write);
+        let took = write_once(source, &mut most, write);
         let count = took.as_ref().map_or(0, |(count, _)| *count as u64);
         bytes += count;
         taken.add(source.take(count)?);
@@ -190,18 +193,23 @@ pub(crate) fn in_turns(
     Ok(SentTurns { bytes, taken: source.settled_by(taken), ending })
 }
 
-/// How many bytes a writer took, and whether it would block.
+/// How many bytes a writer took of at most `most` blocks, and whether it would block. If they lie apart, fewer are gathered for the
+/// next turn.
 fn write_once(
     source: &impl Source,
+    most: &mut usize,
     write: &mut impl FnMut(&[IoSlice<'_>]) -> io::Result<usize>,
 ) -> io::Result<(usize, bool)> {
     // not filled beforehand: most often few are
-    let mut places = [const { Place::uninit() }; PIECES];
-    let pieces = source.gathers().offered(&mut places);
+    let mut places = [const { Place::uninit() }; GATHERED];
+    let pieces = source.gathers().offered(&mut places[..*most]);
     if pieces.is_empty() {
         return Ok((0, false));
     }
-    written(pieces, write)
+    if pieces.len() > PIECES {
+        *most = PIECES;
+    }
+    written(&pieces[..pieces.len().min(PIECES)], write)
 }
 
 /// How many bytes of these pieces a writer took, and whether it would block.

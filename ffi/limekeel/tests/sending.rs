@@ -79,19 +79,19 @@ fn what_a_writer_took_is_gone_and_no_more() {
 }
 
 #[test]
-fn a_thousand_messages_come_over_a_socket_in_two_calls() {
+fn two_thousand_messages_come_over_a_socket_in_two_calls() {
     let (mut socket, mut peer) = UnixStream::pair().expect("there are sockets");
     let mut connection = Connection::open(Marks::default(), Estimate::default()).expect("there is memory");
     // message n is the number n, and one more byte if n is odd, so that no two pieces beside each other are alike
     let messages: Vec<Vec<u8>> =
-        (0..1030u16).map(|number| [&number.to_le_bytes()[..], &[9][..usize::from(number % 2)]].concat()).collect();
+        (0..2060u16).map(|number| [&number.to_le_bytes()[..], &[9][..usize::from(number % 2)]].concat()).collect();
     for message in &messages {
         let _ = connection.write(message).expect("it is accepted");
     }
     let _ = connection.flush().expect("it is open");
     let pieces = connection.pieces::<70>(u32::MAX);
     assert!(pieces.iter().map(|piece| &piece[..]).eq(messages[..70].iter().map(|message| &message[..])));
-    for (count, bytes) in [(1024, 2560), (6, 15)] {
+    for (count, bytes) in [(2048, 5120), (12, 30)] {
         let sent = connection.send_to(&mut socket).expect("it takes");
         assert_eq!((sent.taken.count, sent.bytes), (count, bytes));
     }
@@ -116,6 +116,28 @@ fn small_copies_go_as_few_pieces() {
     assert_eq!(sent.expect("it takes").bytes, 40_000);
     // the first four have memory of their own, and the others share chunks of 1, 2, 4, 8, 16 and 16 KiB
     assert!(lengths.len() <= 4 + 6, "{lengths:?}");
+}
+
+#[test]
+fn messages_that_lie_apart_go_as_a_thousand_pieces() {
+    static BYTES: [u8; 4200] = [7; 4200];
+    let mut connection = Connection::open(Marks::default(), Estimate::default()).expect("there is memory");
+    for each in BYTES.chunks_exact(2).chain(BYTES.chunks_exact(2)) {
+        let _ = connection.write_static(&each[..1]).expect("it is accepted");
+    }
+    let _ = connection.flush().expect("it is open");
+    let mut offered = Vec::new();
+    for _ in 0..2 {
+        let sent = connection.send_with(|pieces| {
+            offered.push(pieces.len());
+            Ok(pieces.len())
+        });
+        assert_eq!(sent.expect("it takes").taken.count, 1024);
+    }
+    assert_eq!(offered, [1024, 1024]);
+    let mut socket = Vec::new();
+    let sent = connection.send_until_blocked(&mut socket, 16).expect("it is open");
+    assert_eq!((sent.bytes, socket.len(), sent.taken.promises), (2152, 2152, 2048..4200));
 }
 
 #[test]
