@@ -25,6 +25,9 @@ const MOST_SEGMENTS: usize = 281474976710656;
 /// For how many entries more the ring grows at least, and of which its places are a multiple then.
 const LEAST_ROOM: usize = 8;
 
+/// From how many entries on it costs less to take a segment's away at once than one by one.
+const MANY: usize = 8;
+
 /// Entries, oldest first.
 ///
 /// While few wait they all lie in one ring, which doubles. Once 128 wait and it is full, it becomes a segment, and so does each
@@ -191,6 +194,9 @@ impl Entries {
         ensures spare { self.old.room ≤ self.new.room + count }
         ensures memory { self.new.capacity ≤ self.old.capacity }
     {
+        if count == 1 {
+            return self.pop_front().map_or(0, |entry| entry.size);
+        }
         let mut left = count;
         let mut size = 0;
         while left > 0 {
@@ -430,7 +436,7 @@ fn take_of(segment: &mut VecDeque<Entry>, count: usize) -> u32
     ensures capacity { deque_capacity segment.new ≡ deque_capacity segment.old }
     ensures counted { result + counted segment.new.items ≡ counted segment.old.items }
 {
-    if count < segment.len() {
+    if count < segment.len() || count < MANY {
         return take_few(segment, count);
     }
     let (front, back) = segment.as_slices();
