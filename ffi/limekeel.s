@@ -4,7 +4,7 @@
 #
 # kit: rattle-kit-13f logic dac8208d650f15bf
 # proved: logic=proved functions=328 axioms=3 target=x86_64-unknown-linux-gnu cpu=x86-64-v2
-# sources: 1057ddc28f02904f3f9cd8e5eba50910152c91655044ab4bce386bd7d554aa9e (ob_budget, ob_types, ob_seq, ob_connection, ob_covered, ob_lifecycle, ob_shared_connection, ob_c)
+# sources: 38d83c7dc035c0c336eeb840427a32d5e38078393747d964cce7aaf2f2720e0b (ob_budget, ob_types, ob_seq, ob_connection, ob_covered, ob_lifecycle, ob_shared_connection, ob_c)
 	.file	"rattle"
 	.section	".text.unlikely.ob_seq::walk::run_of","ax",@progbits
 	.p2align	6                               # -- Begin function ob_seq::walk::run_of
@@ -14536,11 +14536,13 @@
 	.cfi_offset %r15, -16
 	movq	8(%rdi), %rax
 	leaq	(%rax,%rax), %rcx
+	cmpq	$1, %rcx
+	adcq	$-1, %rcx
 	cmpq	%rsi, %rcx
-	cmovaq	%rcx, %rsi
+	cmovbeq	%rsi, %rcx
 	testq	%rax, %rax
-	movq	$-1, %r15
-	cmovnsq	%rsi, %r15
+	movq	$-2, %r15
+	cmovnsq	%rcx, %r15
 	cmpq	%r15, %rax
 	cmovbeq	%r15, %rax
 	cmpq	%rax, 16(%rdi)

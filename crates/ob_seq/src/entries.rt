@@ -245,7 +245,7 @@ impl Entries {
     }
 
     /// Gives memory back if all lie in the ring, and at most a quarter of it is used: if it has room for more than `kept`, it
-    /// keeps room for twice as many as there are, and for `kept` at least.
+    /// keeps room for twice as many as there are but one, and for `kept` at least.
     #[inline(always)]
     pub fn give_back(&mut self, kept: usize)
         ensures items { self.new.items ≡ self.old.items }
@@ -362,7 +362,7 @@ fn run_in(segment: &VecDeque<Entry>, place: usize) -> &[Entry]
     }
 }
 
-/// Keeps room for twice as many as there are, and for `kept` at least.
+/// Keeps room for twice as many as there are but one, and for `kept` at least: a ring of 16 has 7 then, and is not made smaller twice.
 // It is rare: apart, a removal saves no registers for it.
 #[cold]
 #[inline(never)]
@@ -372,8 +372,8 @@ fn keep_room(ring: &mut VecDeque<Entry>, kept: usize)
     ensures less { deque_capacity ring.new ≤ deque_capacity ring.old }
     ensures none { kept ≡ 0 → deque_len ring.old ≡ 0 → deque_capacity ring.new ≡ 0 }
 {
-    let twice = ring.len().saturating_mul(2);
-    ring.shrink_to(kept.max(twice));
+    let nearly_twice = ring.len().saturating_mul(2).saturating_sub(1);
+    ring.shrink_to(kept.max(nearly_twice));
 }
 
 /// Puts the last segment behind those before it, and an empty one for 128 in its place. If that fails, all is as it was.
