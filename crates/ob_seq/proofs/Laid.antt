@@ -10,7 +10,7 @@ use Rattle.ob_seq.proofs.Words.{◌≡◌, ◌<◌, ◌≤◌, ◌+◌, ◌-◌,
 use Rattle.ob_seq.proofs.Words.{slice_set, refl, sym, ap, ◌∙◌, arith, append_assoc, append-nil, length-append, nat_tests, Entry}
 use Rattle.ob_seq.specs.Laid.{AreBehind, AreFull, AreLaid, IsFoundIn, Laid, capacity_of, entries_of, items_of, laid_of}
 use Rattle.ob_seq.specs.Laid.{most_segments, segment_room}
-use Rattle.ob_seq.specs.Unsent.{grown_room, most_left_behind}
+use Rattle.ob_seq.specs.Unsent.{HoldsLittleMore, grown_room, most_left_behind}
 use Rattle.ob_seq.specs.Lent.{with_entry}
 use Rattle.std.specs.VecDeque.{deque_with_item}
 use Rattle.ob_seq.specs.declared.entries.Entries.TheInside.{Inside}
@@ -93,7 +93,7 @@ module _ {Z : Type 0} where
   none_behind (segment ∷ segments) behind none =
       absurd (omega (arith, none, behind.0.0, segment.ok, length-append segment.items (entries_of segments)))
 
-  -- full segments have 64 entries each
+  -- full segments have 128 entries each
   full_before : (segments : List (VecDeque Entry Z)) (n : ℕ) → AreFull segments → n ≤ length segments →
       length (entries_of (take n segments)) ≡ n * segment_room
   full_before segments zero full few = refl
@@ -114,7 +114,7 @@ module _ {Z : Type 0} where
   full_at (one ∷ segments) (suc n) segment full some is =
       full_at segments n segment full.1 (omega (arith, some)) is
 
-  -- so many entries have the segments at most
+  -- how many entries the segments have at most
   pub few_entries : (segments : List (VecDeque Entry Z)) → AreBehind segments →
       length (entries_of segments) < 9223372036854775808 + length segments * segment_room
   few_entries [] behind = omega arith
@@ -180,6 +180,18 @@ all_countable inside view sound =
       inside.last.small,
       length-append (entries_of inside.more.items) inside.last.items,
     ))
+
+-- they all have memory for those for which there is room and for little more
+pub holds_little_more : (inside : Inside) → AreLaid inside → (let laid = laid_of inside in HoldsLittleMore (length laid.items) laid.room laid.capacity)
+holds_little_more inside sound =
+    let behind = inside.more.items in
+    let all = length-append (entries_of behind) inside.last.items in record {
+      all = omega (arith, no_less behind, all, inside.last.ok, inside.last.small);
+      few = omega (arith, little_more behind sound.behind, all, inside.last.ok, inside.last.small);
+      empty = λ nothing.
+          let none = none_behind behind sound.behind (omega (arith, nothing, all)) in
+          rw none (omega (arith, inside.last.ok, inside.last.small, rw none at nothing, rw none at all));
+    }
 
 -- many grow by a segment
 pub segment_more : (count room : ℕ) → room ≡ count → segment_room ≤ count → grown_room count room ≡ count + segment_room

@@ -43,7 +43,7 @@ module _ {Z : Type 0} where
   AreBehind (segment ∷ segments) =
       ((0 < deque_len segment) × (deque_capacity segment ≤ most_left_behind)) × AreFull segments
 
-  -- what was last stands behind the others, and an empty one with room for 64 is last; there were not too many
+  -- what was last stands behind the others, and an empty one with room for 128 is last; there were not too many
   pub record IsAdded (last : VecDeque Entry Z) (old : List (VecDeque Entry Z)) (empty : VecDeque Entry Z)
       (new : List (VecDeque Entry Z)) : Type 0 where
     pub behind : new ≡ old ++ last ∷ []

@@ -108,17 +108,17 @@ room_for_one_more unsent = grown_room (waiting_count unsent) unsent.room
 abbrev pub most_left_behind : ℕ
 most_left_behind = 256
 
--- memory is held for those for which there is room and for few more, and for no more if nothing waits
-pub record HoldsLittleMore (unsent : Unsent) : Type 0 where
-  pub room : unsent.room ≤ unsent.capacity
-  pub few : unsent.capacity ≤ unsent.room + most_left_behind
-  pub empty : waiting_count unsent ≡ 0 → unsent.capacity ≡ unsent.room
+-- while *n* wait, memory is held for those for which there is room and for few more, and for no more if nothing waits
+pub record HoldsLittleMore (waiting room capacity : ℕ) : Type 0 where
+  pub all : room ≤ capacity
+  pub few : capacity ≤ room + most_left_behind
+  pub empty : waiting ≡ 0 → capacity ≡ room
 
--- some that waited are gone: there may be less room, but no place to spare is lost, and no memory is taken
-pub record LeavesRoom (old new : Unsent) : Type 0 where
-  pub less : new.room ≤ old.room
-  pub spare : old.room + waiting_count new ≤ new.room + waiting_count old
-  pub memory : new.capacity ≤ old.capacity
+-- *n* that waited are gone: there may be less room, but no place to spare is lost, and no memory is taken
+pub record LeavesRoom (n room_before capacity_before room capacity : ℕ) : Type 0 where
+  pub less : room ≤ room_before
+  pub spare : room_before ≤ room + n
+  pub memory : capacity ≤ capacity_before
 
 -- all is as it was but for the room and the memory
 abbrev pub KeepsAll : Unsent → Unsent → Type 0

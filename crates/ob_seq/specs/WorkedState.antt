@@ -17,6 +17,7 @@ use Rattle.ob_seq.specs.Pending.{takes_no_memory, settled_along}
 use Rattle.ob_seq.specs.Rows.{FitsItsPlace, StandInOrder, Row, Place, Unflushed, Flushed, Voided, Gone}
 use Rattle.ob_seq.specs.State.{writable_after, empty_after, closed_after, user_writable_after, writes_left_after}
 use Rattle.ob_seq.specs.State.{writes_in, marks_after}
+use Rattle.ob_seq.specs.Unsent.{grown_room}
 use Rattle.ob_seq.specs.Worked.{block, marked, refused, replied, settles, shown, succeeds}
 
 -- two blocks that bring the pending bytes above the high mark
@@ -74,6 +75,12 @@ abbrev pub WantsOfMemory : Type 0
 WantsOfMemory =
     map takes_no_memory one_of_each
     ≡ false ∷ true ∷ true ∷ true ∷ false ∷ true ∷ true ∷ false ∷ false ∷ true ∷ true ∷ []
+
+-- the room for one more than 0, 7, 8, 16, 33, 127, 128 and 300 messages that have no place to spare
+abbrev pub RoomsAsTheyGrow : Type 0
+RoomsAsTheyGrow =
+    map (λ full. grown_room full full) (0 ∷ 7 ∷ 8 ∷ 16 ∷ 33 ∷ 127 ∷ 128 ∷ 300 ∷ [])
+    ≡ 8 ∷ 16 ∷ 16 ∷ 32 ∷ 72 ∷ 256 ∷ 256 ∷ 428 ∷ []
 
 -- a writable buffer at the low mark and at the high mark: the next byte above high makes it unwritable
 abbrev pub WritableAtTheMarks : Type 0

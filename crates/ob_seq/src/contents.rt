@@ -136,7 +136,7 @@ impl Contents {
     /// no more than there is room for. The list of the segments is not counted.
     pub fn capacity(&self) -> usize
         ensures value { result ≡ self.now.capacity }
-        ensures little_more { HoldsLittleMore self.now }
+        ensures little_more { HoldsLittleMore (waiting_count self.now) self.now.room self.now.capacity }
     {
         self.entries.capacity()
     }

@@ -16,7 +16,7 @@ ghost use Rattle.ob_seq.specs.WorkedState.{NoneInFrontAtAnEnd, MarksRaised, Mark
 ghost use Rattle.ob_seq.specs.WorkedState.{MarksSetBetweenFalls, MarksSetBetweenRises, EqualMarksSet};
 ghost use Rattle.ob_seq.specs.WorkedState.{MarksSetUnderAUserBit, MarksSetAsTheyAre, MarksSetAtAnEnd};
 ghost use Rattle.ob_seq.specs.WorkedState.{LooksUnderNewMarks, LastMarks, UnwritableByEither, EmptyWithoutALine};
-ghost use Rattle.ob_seq.specs.WorkedState.{ClosedByAClose, UserBitsTold, WritesLeft, WantsOfMemory};
+ghost use Rattle.ob_seq.specs.WorkedState.{ClosedByAClose, UserBitsTold, WritesLeft, WantsOfMemory, RoomsAsTheyGrow};
 
 #[tactic(auto, unfolding(crate::specs::State::user_bits))]
 fn worked_rows()
@@ -106,6 +106,7 @@ fn worked_state()
     ensures user_bits_told { UserBitsTold }
     ensures writes_left { WritesLeft }
     ensures wants_of_memory { WantsOfMemory }
+    ensures rooms_as_they_grow { RoomsAsTheyGrow }
 {}
 
 #[tactic(auto, unfolding(crate::specs::State::user_bits))]

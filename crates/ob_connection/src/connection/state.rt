@@ -4,7 +4,7 @@ ghost use Rattle.std.specs.Prelude.{◌≡◌, ℕ, List, length, Some};
 ghost use Rattle.ob_types.specs.declared.command.Command.TheVariants.{Write};
 ghost use Rattle.ob_types.specs.declared.message.Message.TheVariants.{Block};
 ghost use Rattle.ob_seq.specs.State.{marks_after, writable_after, empty_after, closed_after};
-ghost use Rattle.ob_seq.specs.Unsent.{HoldsLittleMore, spares};
+ghost use Rattle.ob_seq.specs.Unsent.{HoldsLittleMore, spares, waiting_count};
 ghost use Rattle.ob_connection.specs.Connected.{room_in, Gives};
 ghost use Rattle.ob_connection.specs.Connected.{Refuses, Shows, Tells, unflushed_count_after, waiting_count_after};
 
@@ -82,7 +82,7 @@ impl Connection {
     /// `capacity`.
     pub fn capacity(&self) -> usize
         ensures value { result ≡ self.now.unsent.capacity }
-        ensures little_more { HoldsLittleMore self.now.unsent }
+        ensures little_more { HoldsLittleMore (waiting_count self.now.unsent) (room_in self.now) self.now.unsent.capacity }
     {
         self.contents.capacity()
     }

@@ -38,7 +38,7 @@ pub record TakesFirst (count : ℕ) (notice : Bool) (old new : Unsent) : Type 0 
       whole (gone ++ map (ended outcome) (take count old.line)) new
       ≡ times count (front_taken notice outcome) (whole gone old)
   pub fewer : waiting_count new + count ≡ waiting_count old
-  pub room : LeavesRoom old new
+  pub room : LeavesRoom count old.room old.capacity new.room new.capacity
 
 -- the fronts are taken away that a removal of bytes takes which ends there, and bytes are skipped of the next one; no place to
 -- spare is lost
@@ -46,7 +46,7 @@ pub record TakesCut (cut : Cut) (old new : Unsent) : Type 0 where
   pub taken : (gone : List Outcome) →
       whole (gone ++ map (ended Success) (take cut.whole old.line)) new ≡ bytes_removed cut (whole gone old)
   pub fewer : waiting_count new + cut.whole ≡ waiting_count old
-  pub room : LeavesRoom old new
+  pub room : LeavesRoom cut.whole old.room old.capacity new.room new.capacity
 
 -- a call that has nothing to say
 abbrev pub done_reply : List PromiseState → ⊤ → Reply

@@ -44,7 +44,7 @@ impl Contents {
         ensures fewer { waiting_count self.old ≡ waiting_count self.new + length (front_endings Cancelled result) }
         ensures frugal { ¬ IsErrOf result Refusal.NoMemory }
         ensures refused { OnErr result (self.new ≡ self.old) }
-        ensures room { LeavesRoom self.old self.new }
+        ensures room { LeavesRoom (length (front_endings Cancelled result)) self.old.room self.old.capacity self.new.room self.new.capacity }
     {
         if self.closed {
             return Err(Refusal::Closed);
@@ -69,7 +69,7 @@ impl Contents {
             whole (gone ++ (if result then outcome else Cancelled) ∷ []) self.new
             ≡ front_taken notice outcome (whole gone self.old) }
         ensures fewer { waiting_count self.old ≡ waiting_count self.new + 1 }
-        ensures room { LeavesRoom self.old self.new }
+        ensures room { LeavesRoom 1 self.old.room self.old.capacity self.new.room self.new.capacity }
     {
         let Some(entry) = self.entries.pop_front() else {
             return false;
@@ -109,7 +109,7 @@ impl Contents {
         ensures closed { (gone : List AnOutcome) (cause : Cause) →
             whole (gone ++ map (ended (Failed cause)) self.old.unflushed) self.new
             ≡ closed_pending cause (whole gone self.old) }
-        ensures room { LeavesRoom self.old self.new }
+        ensures room { LeavesRoom (waiting_count self.old) self.old.room self.old.capacity self.new.room self.new.capacity }
     {
         self.entries.clear();
         self.total = 0;

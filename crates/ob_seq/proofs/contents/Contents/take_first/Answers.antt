@@ -36,9 +36,5 @@ returns c =
     record {
       taken = taken;
       fewer = fewer;
-      room = record {
-        less = rw (← c.self.view_is) took.ensures.room;
-        spare = rw (← c.self.view_is) (omega (arith, took.ensures.spare, rw (← c.self.view_is) at fewer));
-        memory = rw (← c.self.view_is) took.ensures.memory;
-      };
+      room = rw (← c.self.view_is) took.ensures.room;
     }

@@ -1,6 +1,5 @@
-use Rattle.ob_seq.proofs.Words.{length-append, arith}
-use Rattle.ob_seq.specs.Laid.{entries_of}
-use Rattle.ob_seq.proofs.Laid.{few_places, little_more, no_less}
+use Rattle.ob_seq.proofs.Words.{arith}
+use Rattle.ob_seq.proofs.Laid.{few_places, holds_little_more}
 use Rattle.ob_seq.proofs.entries.Entries.capacity.Goals as goal
 
 pub overflow_add-result : goal.overflow_add-result
@@ -15,24 +14,5 @@ overflow_add-result c =
       c.capacity.ensures,
     )
 
-pub returns-clause-room : goal.returns-clause-room
-returns-clause-room c =
-    let inside = c.self.inside in
-    rw (← c.self.view_is) (omega (
-      arith,
-      no_less inside.more.items,
-      length-append (entries_of inside.more.items) inside.last.items,
-      inside.last.ok,
-      inside.last.small,
-    ))
-
-pub returns-clause-few : goal.returns-clause-few
-returns-clause-few c =
-    let inside = c.self.inside in
-    rw (← c.self.view_is) (omega (
-      arith,
-      little_more inside.more.items c.self.invariant.behind,
-      length-append (entries_of inside.more.items) inside.last.items,
-      inside.last.ok,
-      inside.last.small,
-    ))
+pub returns-clause-little_more : goal.returns-clause-little_more
+returns-clause-little_more c = rw (← c.self.view_is) (holds_little_more c.self.inside c.self.invariant)

@@ -1,6 +1,6 @@
 use Rattle.ob_seq.proofs.Words.{◌<◌, length, refl, arith}
 use Rattle.ob_seq.proofs.Laid.{capacity_from}
-use Rattle.ob_seq.proofs.entries.capacity_of.Goals as goal
+use Rattle.ob_seq.proofs.entries.segments.capacity_of.Goals as goal
 
 pub returns-in-Some : goal.returns-in-Some
 returns-in-Some c =

@@ -1,5 +1,5 @@
 use Rattle.ob_seq.proofs.Laid.{found_behind}
-use Rattle.ob_seq.proofs.entries.found_in.Goals as goal
+use Rattle.ob_seq.proofs.entries.segments.found_in.Goals as goal
 
 pub returns : goal.returns
 returns c =

@@ -1,7 +1,7 @@
 use Rattle.ob_seq.proofs.Words.{◌-◌, ◌++◌, ℕ, length, sym, ap, ◌∙◌, arith, drop, take_all}
 use Rattle.std.proofs.Math.Seq.{drop-append-add}
 use Rattle.std.proofs.lemmas.List.{length-drop}
-use Rattle.ob_seq.proofs.entries.run_in.Goals as goal
+use Rattle.ob_seq.proofs.entries.segments.run_in.Goals as goal
 
 pub returns-else-place-front-clause-run : goal.returns-else-place-front-clause-run
 returns-else-place-front-clause-run c =

@@ -1,6 +1,6 @@
 use Rattle.std.specs.VecDeque.{deque_capacity, deque_len}
 use Rattle.ob_seq.proofs.Words.{◌≡◌, ◌+◌, drop, counted}
-use Rattle.ob_seq.proofs.entries.take_few.Given as goal
+use Rattle.ob_seq.proofs.entries.segments.take_of.Given as goal
 
 abbrev pub invariant-loop : goal.invariant-loop
 invariant-loop l = record {

@@ -1,5 +1,5 @@
 use Rattle.ob_seq.proofs.Words.{◌≡◌, ◌+◌, drop, counted}
-use Rattle.ob_seq.proofs.entries.counted.Given as goal
+use Rattle.ob_seq.proofs.entries.segments.counted.Given as goal
 
 abbrev pub invariant-loop-entry : goal.invariant-loop-entry
 invariant-loop-entry l = l.size + counted (drop l.entry-index l.run) ≡ counted l.run
