@@ -10,8 +10,8 @@
 #include "limekeel.h"
 
 #define OVER 16 /* before each block stands how long it is */
-#define IDLE 168
-#define BURST (IDLE + 7 * 64) /* with the ring of 7 entries that is kept after a burst */
+#define IDLE 200
+#define BURST (IDLE + 6 * 64) /* with the ring of 6 entries that is kept after a burst */
 #define MANY 100000
 
 static uint8_t nowhere;

@@ -8,8 +8,8 @@ use Rattle.std.proofs.lemmas.List.{drop-append-le, drop_more, length-drop, lengt
 use Rattle.std.proofs.lemmas.List.{set-append_right, take-append-le}
 use Rattle.ob_seq.proofs.Words.{◌≡◌, ◌<◌, ◌≤◌, ◌+◌, ◌-◌, ◌*◌, ◌/◌, ℕ, zero, suc, List, [], ◌∷◌, ◌++◌, length, take, drop, get_or}
 use Rattle.ob_seq.proofs.Words.{slice_set, refl, sym, ap, ◌∙◌, arith, append_assoc, append-nil, length-append, nat_tests, Entry}
-use Rattle.ob_seq.specs.Laid.{AreBehind, AreFull, AreLaid, IsFoundIn, Laid, capacity_of, entries_of, items_of, laid_of}
-use Rattle.ob_seq.specs.Laid.{most_segments, segment_room}
+use Rattle.ob_seq.specs.Laid.{AreFull, AreInFront, AreLaid, IsFoundIn, Laid, capacity_of, entries_of, fronts, items_of, laid_of}
+use Rattle.ob_seq.specs.Laid.{segment_room}
 use Rattle.ob_seq.specs.Unsent.{HoldsLittleMore, grown_room, most_left_behind}
 use Rattle.ob_seq.specs.Lent.{with_entry}
 use Rattle.std.specs.VecDeque.{deque_with_item}
@@ -23,19 +23,11 @@ module _ {Z : Type 0} where
   entries_behind (segment ∷ segments) last =
       rw (entries_behind segments last) (sym (append_assoc segment.items (entries_of segments) last.items))
 
-  -- a full one may follow, and any may that is the first
-  full_behind : (segments : List (VecDeque Entry Z)) (last : VecDeque Entry Z) → AreFull segments →
+  -- a full one may follow
+  pub full_behind : (segments : List (VecDeque Entry Z)) (last : VecDeque Entry Z) → AreFull segments →
       deque_len last ≡ segment_room → deque_capacity last ≡ segment_room → AreFull (segments ++ last ∷ [])
   full_behind [] last full long wide = ((long, wide), tt)
   full_behind (segment ∷ segments) last full long wide = (full.0, full_behind segments last full.1 long wide)
-
-  pub one_behind : (segments : List (VecDeque Entry Z)) (last : VecDeque Entry Z) → AreBehind segments →
-      0 < deque_len last → (0 < length segments → deque_len last ≡ segment_room) →
-      (0 < length segments → deque_capacity last ≡ segment_room) → deque_capacity last ≤ most_left_behind →
-      AreBehind (segments ++ last ∷ [])
-  one_behind [] last behind some long wide small = ((some, small), tt)
-  one_behind (segment ∷ segments) last behind some long wide small =
-      (behind.0, full_behind segments last behind.1 (long (omega arith)) (wide (omega arith)))
 
   -- for how many entries there is memory with one segment more
   pub capacity_behind : (segments : List (VecDeque Entry Z)) (last : VecDeque Entry Z) →
@@ -55,43 +47,17 @@ module _ {Z : Type 0} where
   full_count (segment ∷ segments) full =
       omega (arith, full_count segments full.1, full.0.0, segment.ok, length-append segment.items (entries_of segments))
 
-  -- they have memory for what they have and for little more
-  pub little_more : (segments : List (VecDeque Entry Z)) → AreBehind segments →
-      capacity_of segments ≤ length (entries_of segments) + most_left_behind
-  little_more [] behind = omega arith
-  little_more (segment ∷ segments) behind =
-      omega (
-        arith,
-        behind.0.1,
-        full_capacity segments behind.1,
-        full_count segments behind.1,
-        length-append segment.items (entries_of segments),
-      )
+  -- those in front by their number
+  module _ (first : VecDeque Entry Z) (segments : List (VecDeque Entry Z)) (front : AreInFront first segments) where
+    pub count_in_front : length (entries_of (first ∷ segments)) ≡ deque_len first + length segments * segment_room
+    count_in_front =
+        omega (arith, full_count segments front.full, first.ok, length-append first.items (entries_of segments))
 
-  pub few_places : (segments : List (VecDeque Entry Z)) → AreBehind segments →
-      capacity_of segments ≤ most_left_behind + length segments * segment_room
-  few_places [] behind = omega arith
-  few_places (segment ∷ segments) behind = omega (arith, behind.0.1, full_capacity segments behind.1)
+    pub places_in_front : capacity_of (first ∷ segments) ≡ deque_capacity first + length segments * segment_room
+    places_in_front = omega (arith, full_capacity segments front.full)
 
-  pub no_less : (segments : List (VecDeque Entry Z)) → length (entries_of segments) ≤ capacity_of segments
-  no_less [] = omega arith
-  no_less (segment ∷ segments) =
-      omega (arith, no_less segments, segment.ok, segment.small, length-append segment.items (entries_of segments))
-
-  -- the first by itself, and those behind it by their number
-  pub capacity_from : (segments : List (VecDeque Entry Z)) (first : VecDeque Entry Z) → AreBehind segments →
-      0 < length segments → first ≡ get_or segments 0 first →
-      deque_capacity first + (length segments - 1) * segment_room ≡ capacity_of segments
-  capacity_from [] first behind some is = absurd (omega (arith, some))
-  capacity_from (segment ∷ segments) first behind some is =
-      omega (arith, ap (λ (one : VecDeque Entry Z). deque_capacity one) is, full_capacity segments behind.1)
-
-  -- no segment has none
-  pub none_behind : (segments : List (VecDeque Entry Z)) → AreBehind segments → length (entries_of segments) ≡ 0 →
-      segments ≡ []
-  none_behind [] behind none = refl
-  none_behind (segment ∷ segments) behind none =
-      absurd (omega (arith, none, behind.0.0, segment.ok, length-append segment.items (entries_of segments)))
+    pub few_in_front : length (entries_of (first ∷ segments)) < 9223372036854775808
+    few_in_front = omega (arith, count_in_front, front.few, front.small, first.ok, first.small)
 
   -- full segments have 128 entries each
   full_before : (segments : List (VecDeque Entry Z)) (n : ℕ) → AreFull segments → n ≤ length segments →
@@ -114,60 +80,45 @@ module _ {Z : Type 0} where
   full_at (one ∷ segments) (suc n) segment full some is =
       full_at segments n segment full.1 (omega (arith, some)) is
 
-  -- how many entries the segments have at most
-  pub few_entries : (segments : List (VecDeque Entry Z)) → AreBehind segments →
-      length (entries_of segments) < 9223372036854775808 + length segments * segment_room
-  few_entries [] behind = omega arith
-  few_entries (segment ∷ segments) behind =
-      omega (
-        arith,
-        full_count segments behind.1,
-        segment.ok,
-        segment.small,
-        length-append segment.items (entries_of segments),
-      )
-
   -- a place behind the first segment lies in one of the others
-  pub found_behind : (segments : List (VecDeque Entry Z)) (first : VecDeque Entry Z) (place ahead : ℕ) → AreBehind segments →
-      place < length (entries_of segments) → first ≡ get_or segments 0 first → ahead ≡ deque_len first → ahead ≤ place →
-      IsFoundIn segments place ((place - ahead) / 128 + 1) ((place - ahead) % 128)
-  found_behind [] first place ahead behind there is long past = absurd (omega (arith, there))
-  found_behind (one ∷ segments) first place ahead behind there is long past =
+  pub found_behind : (first : VecDeque Entry Z) (segments : List (VecDeque Entry Z)) (place ahead : ℕ) → AreFull segments →
+      place < length (entries_of (first ∷ segments)) → ahead ≡ deque_len first → ahead ≤ place →
+      IsFoundIn (first ∷ segments) place ((place - ahead) / 128 + 1) ((place - ahead) % 128)
+  found_behind first segments place ahead behind there same past =
       let n = (place - ahead) / 128 in
-      let same : ahead ≡ deque_len one = long ∙ ap (λ (one : VecDeque Entry Z). deque_len one) is in
-      let all = full_count segments behind.1 in
-      let count = length-append one.items (entries_of segments) in
-      let within : n < length segments = omega (arith, all, count, there, same, past, one.ok) in
+      let all = full_count segments behind in
+      let count = length-append first.items (entries_of segments) in
+      let within : n < length segments = omega (arith, all, count, there, same, past, first.ok) in
       let next : n + 1 ≡ suc n = omega arith in
-      let front = full_before segments n behind.1 (omega (arith, within)) in record {
+      let front = full_before segments n behind (omega (arith, within)) in record {
         within = omega (arith, within);
         inner = λ segment here.
-            let full = full_at segments n segment behind.1 within
-            (here ∙ ap (λ (k : ℕ). get_or (one ∷ segments) k segment) next) in
+            let full = full_at segments n segment behind within
+            (here ∙ ap (λ (k : ℕ). get_or (first ∷ segments) k segment) next) in
             omega (arith, full);
-        before = rw next (omega (arith, same, past, front, one.ok, length-append one.items (entries_of (take n segments))));
+        before = rw next (omega (arith, same, past, front, first.ok, length-append first.items (entries_of (take n segments))));
       }
 
-  -- what stands in some segments stands in one
-  pub some_segment : (segments : List (VecDeque Entry Z)) → 0 < length (entries_of segments) → 0 < length segments
-  some_segment [] some = absurd (omega (arith, some))
-  some_segment (segment ∷ segments) some = omega arith
+-- a segment behind the first stands one further among all in front
+module _ {Z : Type 0} (first : VecDeque Entry Z) (segments : List (VecDeque Entry Z)) where
+  pub stands_behind : (n : ℕ) (segment : VecDeque Entry Z) → 0 < n → segment ≡ get_or segments (n - 1) segment →
+      segment ≡ get_or (first ∷ segments) n segment
+  stands_behind zero segment some is = absurd (omega (arith, some))
+  stands_behind (suc n) segment some is =
+      let same : suc n - 1 ≡ n = omega arith in
+      rw same at is
 
-  countable_behind : (segments : List (VecDeque Entry Z)) (room : ℕ) → AreBehind segments →
-      (0 < length segments → room ≡ segment_room) → length segments ≤ most_segments → room < 9223372036854775808 →
-      length (entries_of segments) + room < 18446744073709551616
-  countable_behind [] room behind wide few small = omega (arith, small)
-  countable_behind (segment ∷ segments) room behind wide few small =
-      omega (arith, few_entries (segment ∷ segments) behind, wide (omega arith), few)
+  pub set_behind_first : (n : ℕ) (segment : VecDeque Entry Z) → 0 < n →
+      first ∷ slice_set segments (n - 1) segment ≡ slice_set (first ∷ segments) n segment
+  set_behind_first zero segment some = absurd (omega (arith, some))
+  set_behind_first (suc n) segment some =
+      let same : suc n - 1 ≡ n = omega arith in
+      rw same refl
 
 -- all places can be counted
-pub countable : (inside : Inside) → AreLaid inside → inside.ahead + deque_capacity inside.last < 18446744073709551616
-countable inside sound =
-    omega (
-      arith,
-      countable_behind inside.more.items inside.last.cap sound.behind sound.room sound.few inside.last.small.0,
-      sound.ahead,
-    )
+pub countable : (inside : Inside) → AreLaid inside →
+    length (entries_of (fronts inside)) + deque_capacity inside.last < 18446744073709551616
+countable inside sound = omega (arith, few_in_front inside.first inside.more.items sound.front, sound.small)
 
 pub all_countable : (inside : Inside) {laid : Laid} → laid_of inside ≡ laid → AreLaid inside →
     length laid.items < 18446744073709551616
@@ -175,23 +126,30 @@ all_countable inside view sound =
     rw (← view) (omega (
       arith,
       countable inside sound,
-      sound.ahead,
       inside.last.ok,
       inside.last.small,
-      length-append (entries_of inside.more.items) inside.last.items,
+      length-append (entries_of (fronts inside)) inside.last.items,
     ))
 
 -- they all have memory for those for which there is room and for little more
 pub holds_little_more : (inside : Inside) → AreLaid inside → (let laid = laid_of inside in HoldsLittleMore (length laid.items) laid.room laid.capacity)
 holds_little_more inside sound =
-    let behind = inside.more.items in
-    let all = length-append (entries_of behind) inside.last.items in record {
-      all = omega (arith, no_less behind, all, inside.last.ok, inside.last.small);
-      few = omega (arith, little_more behind sound.behind, all, inside.last.ok, inside.last.small);
+    let first = inside.first in
+    let count = count_in_front first inside.more.items sound.front in
+    let places = places_in_front first inside.more.items sound.front in
+    let all = length-append (entries_of (fronts inside)) inside.last.items in record {
+      all = omega (arith, count, places, all, inside.last.ok, inside.last.small, first.ok, first.small);
+      few = omega (arith, count, places, all, inside.last.ok, inside.last.small, sound.front.small);
       empty = λ nothing.
-          let none = none_behind behind sound.behind (omega (arith, nothing, all)) in
-          rw none (omega (arith, inside.last.ok, inside.last.small, rw none at nothing, rw none at all));
+          let none : deque_len first ≡ 0 = omega (arith, count, all, nothing) in
+          omega (arith, count, places, all, inside.last.ok, inside.last.small, none, (sound.front.none none).1);
     }
+
+-- behind some in front the last has 128 entries if it has no place left
+pub last_full : (inside : Inside) {laid : Laid} → laid_of inside ≡ laid → AreLaid inside → laid.room ≡ length laid.items →
+    0 < deque_len inside.first → deque_len inside.last ≡ segment_room
+last_full inside view sound full some =
+    omega (arith, rw (← view) at full, sound.room some, inside.last.small)
 
 -- many grow by a segment
 pub segment_more : (count room : ℕ) → room ≡ count → segment_room ≤ count → grown_room count room ≡ count + segment_room
@@ -247,16 +205,6 @@ module _ {Z : Type 0} (segment : VecDeque Entry Z) (rest : ℕ) (inner : rest < 
         ((long_there, wide ∙ ap (λ (one : VecDeque Entry Z). deque_capacity one) is ∙ full.0.1), full.1)
     full_there (one ∷ segments) (suc n) full some is = (full.0, full_there segments n full.1 (omega (arith, some)) is)
 
-    behind_there : (segments : List (VecDeque Entry Z)) (n : ℕ) → AreBehind segments → n < length segments →
-        segment ≡ get_or segments n segment → AreBehind (slice_set segments n other)
-    behind_there [] n behind some is = absurd (omega (arith, some))
-    behind_there (one ∷ segments) zero behind some is =
-        let here = ap (λ (one : VecDeque Entry Z). deque_len one) is in
-        let there = ap (λ (one : VecDeque Entry Z). deque_capacity one) is in
-        ((omega (arith, behind.0.0, long, here), omega (arith, behind.0.1, wide, there)), behind.1)
-    behind_there (one ∷ segments) (suc n) behind some is =
-        (behind.0, full_there segments n behind.1 (omega (arith, some)) is)
-
     capacity_there : (segments : List (VecDeque Entry Z)) (n : ℕ) → n < length segments →
         segment ≡ get_or segments n segment → capacity_of (slice_set segments n other) ≡ capacity_of segments
     capacity_there [] n some is = absurd (omega (arith, some))
@@ -266,20 +214,20 @@ module _ {Z : Type 0} (segment : VecDeque Entry Z) (rest : ℕ) (inner : rest < 
         omega (arith, capacity_there segments n (omega (arith, some)) is)
 
 -- a place in the last segment
-module _ (inside : Inside) {laid : Laid} (view : laid_of inside ≡ laid) (sound : AreLaid inside) {place : ℕ}
-    (some : place < length laid.items) (past : inside.ahead ≤ place) where
+module _ (inside : Inside) {laid : Laid} (view : laid_of inside ≡ laid) {place ahead : ℕ}
+    (count : ahead ≡ length (entries_of (fronts inside))) (some : place < length laid.items) (past : ahead ≤ place) where
   abbrev pub rest : ℕ
-  rest = place - inside.ahead
+  rest = place - ahead
 
   pub in_last : rest < length inside.last.items
   in_last =
       let within = rw (← view) at some in
-      omega (arith, within, sound.ahead, past, length-append (entries_of inside.more.items) inside.last.items)
+      omega (arith, within, count, past, length-append (entries_of (fronts inside)) inside.last.items)
 
   from_last : drop place (items_of inside) ≡ drop rest inside.last.items
   from_last =
-      let there : place ≡ length (entries_of inside.more.items) + rest = omega (arith, sound.ahead, past) in
-      ap (λ (n : ℕ). drop n (items_of inside)) there ∙ drop-append-add (entries_of inside.more.items) inside.last.items rest
+      let there : place ≡ length (entries_of (fronts inside)) + rest = omega (arith, count, past) in
+      ap (λ (n : ℕ). drop n (items_of inside)) there ∙ drop-append-add (entries_of (fronts inside)) inside.last.items rest
 
   pub run_in_last : {run : List Entry} → run ≡ take (length run) (drop rest inside.last.items) →
       run ≡ take (length run) (drop place laid.items)
@@ -296,32 +244,32 @@ module _ (inside : Inside) {laid : Laid} (view : laid_of inside ≡ laid) (sound
       laid_of (record inside { last = deque_with_item inside.last rest entry }) ≡ with_entry laid place entry
   lent_last entry =
       let other = slice_set inside.last.items rest entry in
-      let there : length (entries_of inside.more.items) + rest ≡ place = omega (arith, sound.ahead, past) in
-      let items : entries_of inside.more.items ++ other ≡ slice_set (items_of inside) place entry =
-      set_behind (entries_of inside.more.items) inside.last.items rest entry
+      let there : length (entries_of (fronts inside)) + rest ≡ place = omega (arith, count, past) in
+      let items : entries_of (fronts inside) ++ other ≡ slice_set (items_of inside) place entry =
+      set_behind (entries_of (fronts inside)) inside.last.items rest entry
       ∙ ap (λ (n : ℕ). slice_set (items_of inside) n entry) there in
-      let room : length (entries_of inside.more.items ++ other) + (deque_capacity inside.last - deque_len inside.last)
+      let room : length (entries_of (fronts inside) ++ other) + (deque_capacity inside.last - deque_len inside.last)
       ≡ length (items_of inside) + (deque_capacity inside.last - deque_len inside.last) = rw (items, length-set) refl in
       rw (← view) (λ k. record {
         items = items k;
         room = room k;
-        capacity = capacity_of inside.more.items + deque_capacity inside.last;
+        capacity = capacity_of (fronts inside) + deque_capacity inside.last;
       })
 
--- a place in a segment before it
-module _ (inside : Inside) {laid : Laid} (view : laid_of inside ≡ laid) (sound : AreLaid inside) {place index rest : ℕ}
-    (found : IsFoundIn inside.more.items place index rest) {segment : VecDeque Entry Global}
-    (is : segment ≡ get_or inside.more.items index segment) where
+-- a place in a segment in front
+module _ (inside : Inside) {laid : Laid} (view : laid_of inside ≡ laid) {place index rest : ℕ}
+    (found : IsFoundIn (fronts inside) place index rest) {segment : VecDeque Entry Global}
+    (is : segment ≡ get_or (fronts inside) index segment) where
   pub in_segment : rest < length segment.items
   in_segment = omega (arith, found.inner segment is, segment.ok)
 
   from_there : drop place (items_of inside)
-      ≡ drop rest segment.items ++ entries_of (drop (suc index) inside.more.items) ++ inside.last.items
+      ≡ drop rest segment.items ++ entries_of (drop (suc index) (fronts inside)) ++ inside.last.items
   from_there =
-      let all = entries_of inside.more.items in
-      let there = from_segment segment rest in_segment inside.more.items index found.within is in
+      let all = entries_of (fronts inside) in
+      let there = from_segment segment rest in_segment (fronts inside) index found.within is in
       let some : place ≤ length all =
-      omega (arith, found.before, ap (λ (list : List Entry). length list) there, length-drop (length (entries_of (take index inside.more.items)) + rest) all, length-append (drop rest segment.items) (entries_of (drop (suc index) inside.more.items)), length-drop rest segment.items, in_segment) in
+      omega (arith, found.before, ap (λ (list : List Entry). length list) there, length-drop (length (entries_of (take index (fronts inside))) + rest) all, length-append (drop rest segment.items) (entries_of (drop (suc index) (fronts inside))), length-drop rest segment.items, in_segment) in
       drop-append-le place all inside.last.items some
       ∙ ap (λ (list : List Entry). list ++ inside.last.items)
       (ap (λ (n : ℕ). drop n all) found.before ∙ there)
@@ -331,7 +279,7 @@ module _ (inside : Inside) {laid : Laid} (view : laid_of inside ≡ laid) (sound
   run_there {run} lies =
       let short = ap (λ (list : List Entry). length list) lies in
       let all = length-take (length run) (drop rest segment.items) in
-      let tail = entries_of (drop (suc index) inside.more.items) in
+      let tail = entries_of (drop (suc index) (fronts inside)) in
       rw (← view) (lies
       ∙ sym (take-append-le (length run) (drop rest segment.items) (tail ++ inside.last.items) (omega (arith, short, all)))
       ∙ ap (take (length run)) (sym (append_assoc (drop rest segment.items) tail inside.last.items) ∙ sym from_there))
@@ -346,39 +294,60 @@ module _ (inside : Inside) {laid : Laid} (view : laid_of inside ≡ laid) (sound
 
   module _ (entry : Entry) where
     abbrev pub lent : List (VecDeque Entry Global)
-    lent = slice_set inside.more.items index (deque_with_item segment rest entry)
+    lent = slice_set (fronts inside) index (deque_with_item segment rest entry)
 
-    lent_entries : entries_of lent ≡ slice_set (entries_of inside.more.items) place entry
+    lent_entries : entries_of lent ≡ slice_set (entries_of (fronts inside)) place entry
     lent_entries =
-        set_there segment rest in_segment entry (deque_with_item segment rest entry) refl refl refl inside.more.items index
+        set_there segment rest in_segment entry (deque_with_item segment rest entry) refl refl refl (fronts inside) index
         found.within is
-        ∙ ap (λ (n : ℕ). slice_set (entries_of inside.more.items) n entry) (sym found.before)
+        ∙ ap (λ (n : ℕ). slice_set (entries_of (fronts inside)) n entry) (sym found.before)
 
-    pub lent_sound : AreLaid (record inside { more = deque_with_item inside.more index (deque_with_item segment rest entry) })
-    lent_sound =
-        let long = length-set inside.more.items index (deque_with_item segment rest entry) in record {
-          ahead = rw (lent_entries, length-set) sound.ahead;
-          behind = behind_there segment rest in_segment entry (deque_with_item segment rest entry) refl refl refl inside.more.items
-              index sound.behind found.within is;
-          room = λ some. sound.room (omega (arith, some, long));
-          few = omega (arith, long, sound.few);
-          small = sound.small;
-        }
-
-    pub lent_there : place < length (entries_of inside.more.items) →
-        laid_of (record inside { more = deque_with_item inside.more index (deque_with_item segment rest entry) })
-        ≡ with_entry laid place entry
-    lent_there some =
-        let items : entries_of lent ++ inside.last.items ≡ slice_set (items_of inside) place entry =
-        ap (λ (list : List Entry). list ++ inside.last.items) lent_entries
-        ∙ sym (set-append_left (entries_of inside.more.items) inside.last.items place entry some) in
-        let room : length (entries_of lent ++ inside.last.items) + (deque_capacity inside.last - deque_len inside.last)
+    -- it stands in the place of that segment
+    pub lent_there : (new : Inside) → fronts new ≡ lent → new.last ≡ inside.last → place < length (entries_of (fronts inside)) →
+        laid_of new ≡ with_entry laid place entry
+    lent_there new is_lent last some =
+        let items : entries_of (fronts new) ++ inside.last.items ≡ slice_set (items_of inside) place entry =
+        ap (λ (list : List Entry). list ++ inside.last.items) (ap (λ (all : List (VecDeque Entry Global)). entries_of all) is_lent ∙ lent_entries)
+        ∙ sym (set-append_left (entries_of (fronts inside)) inside.last.items place entry some) in
+        let room : length (entries_of (fronts new) ++ inside.last.items) + (deque_capacity inside.last - deque_len inside.last)
         ≡ length (items_of inside) + (deque_capacity inside.last - deque_len inside.last) = rw (items, length-set) refl in
-        let memory : capacity_of lent ≡ capacity_of inside.more.items =
-        capacity_there segment rest in_segment entry (deque_with_item segment rest entry) refl refl refl inside.more.items index
+        let memory : capacity_of (fronts new) ≡ capacity_of (fronts inside) =
+        ap (λ (all : List (VecDeque Entry Global)). capacity_of all) is_lent
+        ∙ capacity_there segment rest in_segment entry (deque_with_item segment rest entry) refl refl refl (fronts inside) index
         found.within is in
-        rw (← view) (λ k. record {
+        rw (last, ← view) (λ k. record {
           items = items k;
           room = room k;
           capacity = memory k + deque_capacity inside.last;
         })
+
+-- entries in front stay so if one of them changes: of the first segment,
+pub first_lent : (inside : Inside) → AreLaid inside → (rest : ℕ) (entry : Entry) →
+    AreLaid (record inside { first = deque_with_item inside.first rest entry })
+first_lent inside sound rest entry = record {
+  front = record {
+    full = sound.front.full;
+    none = sound.front.none;
+    small = sound.front.small;
+    few = sound.front.few;
+  };
+  room = sound.room;
+  small = sound.small;
+}
+
+-- or of one behind it
+pub more_lent : (inside : Inside) → AreLaid inside → (segment : VecDeque Entry Global) (index rest : ℕ) (entry : Entry) →
+    rest < length segment.items → index < length inside.more.items → segment ≡ get_or inside.more.items index segment →
+    AreLaid (record inside { more = deque_with_item inside.more index (deque_with_item segment rest entry) })
+more_lent inside sound segment index rest entry inner within is =
+    let other = deque_with_item segment rest entry in
+    let long = length-set inside.more.items index other in record {
+      front = record {
+        full = full_there segment rest inner entry other refl refl refl inside.more.items index sound.front.full within is;
+        none = λ nothing. (omega (arith, long, (sound.front.none nothing).0), (sound.front.none nothing).1);
+        small = sound.front.small;
+        few = omega (arith, long, sound.front.few);
+      };
+      room = sound.room;
+      small = sound.small;
+    }

@@ -2,6 +2,7 @@
 use Rattle.std.specs.Prelude.{◌≡◌, ◌≤◌, ◌<◌, ◌+◌, ◌-◌, ℕ, List, [], ◌∷◌, ◌++◌, length, take, slice_index_or}
 use Rattle.std.specs.VecDeque.{deque_capacity, deque_items, deque_len}
 use Rattle.std_alloc.specs.declared.vec.deque.VecDeque.{VecDeque}
+use Rattle.std.specs.Global.{Global}
 use Rattle.ob_seq.specs.Unsent.{most_left_behind}
 use Rattle.ob_seq.specs.declared.entry.Entry.{Entry}
 use Rattle.ob_seq.specs.declared.entries.Entries.TheInside.{Inside}
@@ -37,11 +38,13 @@ module _ {Z : Type 0} where
   AreFull (segment ∷ segments) =
       ((deque_len segment ≡ segment_room) × (deque_capacity segment ≡ segment_room)) × AreFull segments
 
-  -- the first gives its entries away, has some left and was no larger than a ring gets, and those behind it are full
-  abbrev pub AreBehind : List (VecDeque Entry Z) → Type 0
-  AreBehind [] = Unit {0}
-  AreBehind (segment ∷ segments) =
-      ((0 < deque_len segment) × (deque_capacity segment ≤ most_left_behind)) × AreFull segments
+  -- the first gives its entries away, and was no larger than a ring gets; without any it has no memory, and none is behind it.
+  -- Those behind it are full
+  pub record AreInFront (first : VecDeque Entry Z) (segments : List (VecDeque Entry Z)) : Type 0 where
+    pub full : AreFull segments
+    pub none : deque_len first ≡ 0 → (length segments ≡ 0) × (deque_capacity first ≡ 0)
+    pub small : deque_capacity first ≤ most_left_behind
+    pub few : length segments ≤ most_segments
 
   -- what was last stands behind the others, and an empty one with room for 128 is last; there were not too many
   pub record IsAdded (last : VecDeque Entry Z) (old : List (VecDeque Entry Z)) (empty : VecDeque Entry Z)
@@ -57,23 +60,24 @@ module _ {Z : Type 0} where
     pub inner : (segment : VecDeque Entry Z) → segment ≡ slice_index_or segments index segment → rest < deque_len segment
     pub before : place ≡ length (entries_of (take index segments)) + rest
 
--- all entries, those of the segments before the last and then its own
+-- the segments in front of the last, the oldest first
+abbrev pub fronts : Inside → List (VecDeque Entry Global)
+fronts inside = inside.first ∷ inside.more.items
+
+-- all entries, those of the segments in front and then those of the last
 abbrev pub items_of : Inside → List Entry
-items_of inside = entries_of inside.more.items ++ inside.last.items
+items_of inside = entries_of (fronts inside) ++ inside.last.items
 
 -- a place to spare is one in the last segment
 abbrev pub laid_of : Inside → Laid
 laid_of inside = record {
   items = items_of inside;
   room = length (items_of inside) + (deque_capacity inside.last - deque_len inside.last);
-  capacity = capacity_of inside.more.items + deque_capacity inside.last;
+  capacity = capacity_of (fronts inside) + deque_capacity inside.last;
 }
 
--- those before the last are counted; they are full but for the first, behind some the last has room for 128, and by itself
--- it is no larger than a ring gets
+-- behind some in front the last has room for 128, and by itself it is no larger than a ring gets
 pub record AreLaid (inside : Inside) : Type 0 where
-  pub ahead : inside.ahead ≡ length (entries_of inside.more.items)
-  pub behind : AreBehind inside.more.items
-  pub room : 0 < length inside.more.items → deque_capacity inside.last ≡ segment_room
-  pub few : length inside.more.items ≤ most_segments
+  pub front : AreInFront inside.first inside.more.items
+  pub room : 0 < deque_len inside.first → deque_capacity inside.last ≡ segment_room
   pub small : deque_capacity inside.last ≤ most_left_behind

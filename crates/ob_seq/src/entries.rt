@@ -13,34 +13,37 @@ ghost use Rattle.ob_seq.specs.Laid.{segment_room};
 mod segments;
 
 use crate::entries::segments::{
-    SEGMENT, Taken, add_segment, capacity_of, found_in, pop_ahead, run_in, take_ahead, take_of,
+    SEGMENT, Taken, add_segment, capacity_of, count_of, found_in, pop_ahead, run_in, segment_at,
+    take_ahead, take_of, without_memory,
 };
 use crate::entry::Entry;
 use std::alloc::{AllocError, Global};
 use std::collections::VecDeque;
 use std::marker::Model;
+use std::mem;
 
 /// For how many entries more the ring grows at least, and of which its places are a multiple then.
 const LEAST_ROOM: usize = 8;
 
 /// Entries, oldest first.
 ///
-/// While few wait they all lie in one ring, which doubles. Once 128 wait and it is full, it becomes a segment, and so does each
-/// further one of 128 entries (8 KiB). So none is moved however many wait, and each segment is freed when its last entry is gone.
+/// While few wait they all lie in one ring, the last, which doubles. Once 128 wait and it is full, it becomes a segment in front,
+/// and so does each further one of 128 entries (8 KiB). So none is moved however many wait, and each segment is freed when its last
+/// entry is gone.
 ///
 /// ```text
-///     more                                        last
-///   [   | e | e | .. | e ]  [ e | e | .. | e ]  [ e | e |   |   ]
-///     pop_front                                       a push
+///     first                   more                  last
+///   [   | e | e | .. | e ]  [ e | e | .. | e ] ..  [ e | e |   |   ]
+///     pop_front                                         a push
 /// ```
 #[repr(C)]
 #[derive(Debug, Drop)]
 pub(crate) struct Entries {
     /// The newest, and all while no segment lies before them.
     last: VecDeque<Entry>,
-    /// How many lie in the segments before it.
-    ahead: usize,
-    /// Those segments: each has 128 entries, but for the first, which gives them away.
+    /// The oldest, if segments lie before the last: it gives them away. Without any it has no memory.
+    first: VecDeque<Entry>,
+    /// The segments between them: each has 128 entries.
     more: VecDeque<VecDeque<Entry>>,
 }
 
@@ -63,12 +66,9 @@ impl Entries {
         ensures room { result.room ≡ 0 }
         ensures memory { result.capacity ≡ 0 }
     {
-        let mut last = VecDeque::new(alloc);
-        // It has none, and a contract can say so only of a shrunk one.
-        last.shrink_to_fit();
         Entries {
-            last,
-            ahead: 0,
+            last: without_memory(alloc),
+            first: without_memory(alloc),
             more: VecDeque::new(alloc),
         }
     }
@@ -82,14 +82,14 @@ impl Entries {
     pub fn len(&self) -> usize
         ensures { result ≡ length self.now.items }
     {
-        self.ahead + self.last.len()
+        count_of(&self.first, &self.more) + self.last.len()
     }
 
     /// How many there may be before memory is taken for one more.
     pub fn room(&self) -> usize
         ensures { result ≡ self.now.room }
     {
-        self.ahead + self.last.capacity()
+        count_of(&self.first, &self.more) + self.last.capacity()
     }
 
     /// Whether there may be one more before memory is taken.
@@ -105,7 +105,7 @@ impl Entries {
         ensures value { result ≡ self.now.capacity }
         ensures little_more { HoldsLittleMore (length self.now.items) self.now.room self.now.capacity }
     {
-        capacity_of(&self.more) + self.last.capacity()
+        capacity_of(&self.first, &self.more) + self.last.capacity()
     }
 
     /// The newest; none if the last segment has none yet. No clause says where it lies.
@@ -140,12 +140,16 @@ impl Entries {
         ensures memory { OnOk result (self.new.capacity + self.old.room ≡ self.old.capacity + self.new.room) }
         ensures err { OnErr result (self.new ≡ self.old) }
     {
+        if !self.first.is_empty() {
+            add_segment(&mut self.last, &mut self.more)?;
+            return Ok(());
+        }
         let count = self.last.len();
-        if self.ahead == 0 && count < SEGMENT {
+        if count < SEGMENT {
             return self.last.reserve_exact(doubled(count) - count);
         }
-        add_segment(&mut self.last, &mut self.more)?;
-        self.ahead += count;
+        let empty = VecDeque::with_capacity(*self.last.allocator(), SEGMENT)?;
+        self.first = mem::replace(&mut self.last, empty);
         Ok(())
     }
 
@@ -168,11 +172,10 @@ impl Entries {
         ensures rest { self.new.items ≡ drop 1 self.old.items }
         ensures room { LeavesRoom 1 self.old.room self.old.capacity self.new.room self.new.capacity }
     {
-        if self.ahead == 0 {
+        if self.first.is_empty() {
             return self.last.pop_front();
         }
-        self.ahead -= 1;
-        pop_ahead(&mut self.more)
+        pop_ahead(&mut self.first, &mut self.more)
     }
 
     /// Takes the first `count` away, and returns the bytes that they count together. It goes over them once, segment by segment.
@@ -207,15 +210,13 @@ impl Entries {
         ensures counted { result.size + counted self.new.items ≡ counted self.old.items }
         ensures room { LeavesRoom result.count self.old.room self.old.capacity self.new.room self.new.capacity }
     {
-        if self.ahead == 0 {
+        if self.first.is_empty() {
             return Taken {
                 count,
                 size: take_of(&mut self.last, count),
             };
         }
-        let taken = take_ahead(&mut self.more, count);
-        self.ahead -= taken.count;
-        taken
+        take_ahead(&mut self.first, &mut self.more, count)
     }
 
     /// Takes all away, and keeps the last segment.
@@ -224,13 +225,14 @@ impl Entries {
         ensures room { LeavesRoom (length self.old.items) self.old.room self.old.capacity self.new.room self.new.capacity }
     {
         self.last.clear();
+        self.first.clear();
+        self.first.shrink_to_fit();
         self.more.clear();
         self.more.shrink_to_fit();
-        self.ahead = 0;
     }
 
     /// Gives memory back if all lie in the ring, and at most a quarter of it is used: if it has room for more than `kept`, it
-    /// keeps room for twice as many as there are but one, and for `kept` at least.
+    /// keeps room for twice as many as there are but two, and for `kept` at least.
     #[inline(always)]
     pub fn give_back(&mut self, kept: usize)
         ensures items { self.new.items ≡ self.old.items }
@@ -239,7 +241,7 @@ impl Entries {
         ensures none { kept ≡ 0 → length self.old.items ≡ 0 → self.new.room ≡ 0 }
     {
         let room = self.last.capacity();
-        if room > kept && self.last.len() <= room / 4 && self.ahead == 0 {
+        if room > kept && self.last.len() <= room / 4 && self.first.is_empty() {
             keep_room(&mut self.last, kept);
         }
     }
@@ -251,7 +253,7 @@ impl Entries {
         ensures memory { self.new.capacity ≤ self.old.capacity }
         ensures none { length self.old.items ≡ 0 → self.new.room ≡ 0 }
     {
-        if self.ahead == 0 {
+        if self.first.is_empty() {
             self.last.shrink_to_fit();
         }
     }
@@ -271,12 +273,15 @@ impl Entries {
         ensures* writes_back { sem 𝓛 (LendsEntry self.entry place result) }
         ensures value { result.now ≡ slice_index_or self.old.items place result.now }
     {
-        let ahead = self.ahead;
+        let ahead = count_of(&self.first, &self.more);
         if place >= ahead {
             return &mut self.last[place - ahead];
         }
-        let (index, rest) = found_in(&self.more, place);
-        let segment = &mut self.more[index];
+        let (index, rest) = found_in(&self.first, &self.more, place);
+        if index == 0 {
+            return &mut self.first[rest];
+        }
+        let segment = &mut self.more[index - 1];
         &mut segment[rest]
     }
 
@@ -287,12 +292,12 @@ impl Entries {
         ensures some { 0 < length result.now }
         ensures few { length self.now.items < 18446744073709551616 }
     {
-        let ahead = self.ahead;
+        let ahead = count_of(&self.first, &self.more);
         if place >= ahead {
             return run_in(&self.last, place - ahead);
         }
-        let (index, rest) = found_in(&self.more, place);
-        run_in(&self.more[index], rest)
+        let (index, rest) = found_in(&self.first, &self.more, place);
+        run_in(segment_at(&self.first, &self.more, index), rest)
     }
 }
 
@@ -307,8 +312,8 @@ fn doubled(count: usize) -> usize
     (count + count.max(LEAST_ROOM) + LEAST_ROOM - 1) / LEAST_ROOM * LEAST_ROOM
 }
 
-/// Keeps room for twice as many as there are but one, and for `kept` at least.
-// But one: a ring of 16 has 7 then, and is not made smaller twice. It is rare: apart, a removal saves no registers for it.
+/// Keeps room for twice as many as there are but two, and for `kept` at least.
+// But two: a ring of 16 has 6 then, and is not made smaller twice. It is rare: apart, a removal saves no registers for it.
 #[cold]
 #[inline(never)]
 fn keep_room(ring: &mut VecDeque<Entry>, kept: usize)
@@ -317,6 +322,6 @@ fn keep_room(ring: &mut VecDeque<Entry>, kept: usize)
     ensures less { deque_capacity ring.new ≤ deque_capacity ring.old }
     ensures none { kept ≡ 0 → deque_len ring.old ≡ 0 → deque_capacity ring.new ≡ 0 }
 {
-    let nearly_twice = ring.len().saturating_mul(2).saturating_sub(1);
+    let nearly_twice = ring.len().saturating_mul(2).saturating_sub(2);
     ring.shrink_to(kept.max(nearly_twice));
 }

@@ -37,7 +37,7 @@ fn each_block_is_counted_and_comes_back() {
     let before = LIVE.get();
     let mut connection = Connection::open(Marks::default(), Estimate::default()).expect("there is memory");
     let opened = LIVE.get() - before;
-    assert!((168..=168 + 16).contains(&opened), "{opened}");
+    assert!((200..=200 + 16).contains(&opened), "{opened}");
     let block = Block::new(&[1; 1000]).expect("there is memory");
     assert!(LIVE.get() - before > 1000);
     for _ in 0..100 {

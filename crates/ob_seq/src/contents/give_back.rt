@@ -5,11 +5,11 @@ use crate::contents::Contents;
 
 /// For how many entries there is room while it is open.
 // With one more, what an idle connection takes would be more than 0.6 KiB.
-const KEPT_ROOM: usize = 7;
+const KEPT_ROOM: usize = 6;
 
 impl Contents {
-    /// Gives memory back if little of it is used: if all entries lie in one ring that has room for more than 7, and at most a
-    /// quarter of that is used, it keeps room for twice as many as there are but one, and for 7 at least. Once it is closed it keeps
+    /// Gives memory back if little of it is used: if all entries lie in one ring that has room for more than 6, and at most a
+    /// quarter of that is used, it keeps room for twice as many as there are but two, and for 6 at least. Once it is closed it keeps
     /// none. It cannot fail: if the allocator refuses the smaller ring, the entries keep the one that they have.
     ///
     /// A ring with as many entries as half its room gives nothing back until half of them are gone, and one that gave back

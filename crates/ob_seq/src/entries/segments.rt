@@ -1,14 +1,14 @@
 //! Segments of entries, one behind the other.
 
-ghost use Rattle.std.specs.Prelude.{◌≡◌, ◌≤◌, ◌<◌, ◌+◌, ◌++◌, length, take, drop, OnOk, OnErr, IsSome};
+ghost use Rattle.std.specs.Prelude.{◌≡◌, ◌≤◌, ◌<◌, ◌+◌, ◌++◌, ◌∷◌, [], length, take, drop, OnOk, OnErr, IsSome, slice_index_or};
 ghost use Rattle.std.specs.Option.{option_to_list};
 ghost use Rattle.std.specs.VecDeque.{deque_capacity, deque_len};
 ghost use Rattle.ob_types.specs.Limits.{greatest_total};
 ghost use Rattle.ob_seq.specs.Inside.{counted};
-ghost use Rattle.ob_seq.specs.Laid.{AreBehind, IsAdded, IsFoundIn, capacity_of, entries_of, most_segments};
+ghost use Rattle.ob_seq.specs.Laid.{AreFull, AreInFront, IsAdded, IsFoundIn, capacity_of, entries_of, most_segments};
 
 use crate::entry::Entry;
-use std::alloc::AllocError;
+use std::alloc::{AllocError, Global};
 use std::collections::VecDeque;
 use std::mem;
 
@@ -21,30 +21,62 @@ const MOST_SEGMENTS: usize = 281474976710656;
 /// From how many entries on it costs less to take a segment's away at once than one by one.
 const MANY: usize = 8;
 
-/// For how many entries these segments have memory.
-pub(super) fn capacity_of(more: &VecDeque<VecDeque<Entry>>) -> usize
-    requires behind { AreBehind more.now.items }
-    requires few { length more.now.items ≤ most_segments }
-    ensures { result ≡ capacity_of more.now.items }
+/// A ring without entries, and without memory.
+pub(super) fn without_memory(alloc: Global) -> VecDeque<Entry>
+    ensures items { result.items ≡ [] }
+    ensures capacity { deque_capacity result ≡ 0 }
 {
-    match more.front() {
-        Some(first) => first.capacity() + (more.len() - 1) * SEGMENT,
-        None => 0,
-    }
+    let mut ring = VecDeque::new(alloc);
+    // It has none, and a contract can say so only of a shrunk one.
+    ring.shrink_to_fit();
+    ring
 }
 
-/// In which of these segments the entry at this place lies, and where there.
-pub(super) fn found_in(more: &VecDeque<VecDeque<Entry>>, place: usize) -> (usize, usize)
-    requires behind { AreBehind more.now.items }
-    requires there { place < length (entries_of more.now.items) }
-    ensures { IsFoundIn more.now.items place result.0 result.1 }
+/// How many entries the segments in front have.
+#[inline(always)]
+pub(super) fn count_of(first: &VecDeque<Entry>, more: &VecDeque<VecDeque<Entry>>) -> usize
+    requires { AreInFront first.now more.now.items }
+    ensures { result ≡ length (entries_of (first.now ∷ more.now.items)) }
 {
-    let first = more[0].len();
-    if place < first {
+    first.len() + more.len() * SEGMENT
+}
+
+/// For how many entries the segments in front have memory.
+pub(super) fn capacity_of(first: &VecDeque<Entry>, more: &VecDeque<VecDeque<Entry>>) -> usize
+    requires { AreInFront first.now more.now.items }
+    ensures { result ≡ capacity_of (first.now ∷ more.now.items) }
+{
+    first.capacity() + more.len() * SEGMENT
+}
+
+/// In which of the segments in front the entry at this place lies, and where there.
+pub(super) fn found_in(
+    first: &VecDeque<Entry>,
+    more: &VecDeque<VecDeque<Entry>>,
+    place: usize,
+) -> (usize, usize)
+    requires front { AreInFront first.now more.now.items }
+    requires there { place < length (entries_of (first.now ∷ more.now.items)) }
+    ensures { IsFoundIn (first.now ∷ more.now.items) place result.0 result.1 }
+{
+    let count = first.len();
+    if place < count {
         return (0, place);
     }
-    let behind = place - first;
+    let behind = place - count;
     (behind / SEGMENT + 1, behind % SEGMENT)
+}
+
+/// That one of the segments in front.
+pub(super) fn segment_at<'a>(
+    first: &'a VecDeque<Entry>,
+    more: &'a VecDeque<VecDeque<Entry>>,
+    index: usize,
+) -> &'a VecDeque<Entry>
+    requires { index < length (first.now ∷ more.now.items) }
+    ensures { result.now ≡ slice_index_or (first.now ∷ more.now.items) index result.now }
+{
+    if index == 0 { first } else { &more[index - 1] }
 }
 
 /// Some entries of a segment that lie together from this place on.
@@ -88,26 +120,29 @@ pub(super) struct Taken {
     pub(super) size: u32,
 }
 
-/// Takes away those of the first `count` entries of some segments that lie in the first segment.
-pub(super) fn take_ahead(more: &mut VecDeque<VecDeque<Entry>>, count: usize) -> Taken
-    requires behind { AreBehind more.old.items }
-    requires there { 0 < length more.old.items }
+/// Takes away those of the first `count` entries in front that lie in the first segment.
+pub(super) fn take_ahead(
+    first: &mut VecDeque<Entry>,
+    more: &mut VecDeque<VecDeque<Entry>>,
+    count: usize,
+) -> Taken
+    requires front { AreInFront first.old more.old.items }
+    requires there { 0 < deque_len first.old }
     requires some { 0 < count }
-    requires fits { counted (entries_of more.old.items) ≤ greatest_total }
+    requires fits { counted (entries_of (first.old ∷ more.old.items)) ≤ greatest_total }
     ensures some { 0 < result.count }
     ensures within { result.count ≤ count }
-    ensures items { entries_of more.new.items ≡ drop result.count (entries_of more.old.items) }
-    ensures there { result.count ≤ length (entries_of more.old.items) }
-    ensures counted { result.size + counted (entries_of more.new.items) ≡ counted (entries_of more.old.items) }
-    ensures behind { AreBehind more.new.items }
-    ensures fewer { length more.new.items ≤ length more.old.items }
-    ensures memory { capacity_of more.new.items ≤ capacity_of more.old.items }
+    ensures there { result.count ≤ length (entries_of (first.old ∷ more.old.items)) }
+    ensures items { entries_of (first.new ∷ more.new.items) ≡ drop result.count (entries_of (first.old ∷ more.old.items)) }
+    ensures counted { result.size + counted (entries_of (first.new ∷ more.new.items))
+        ≡ counted (entries_of (first.old ∷ more.old.items)) }
+    ensures front { AreInFront first.new more.new.items }
+    ensures memory { capacity_of (first.new ∷ more.new.items) ≤ capacity_of (first.old ∷ more.old.items) }
 {
-    let segment = &mut more[0];
-    let count = count.min(segment.len());
-    let size = take_of(segment, count);
-    if segment.is_empty() {
-        drop_first(more);
+    let count = count.min(first.len());
+    let size = take_of(first, count);
+    if first.is_empty() {
+        take_next(first, more);
     }
     Taken { count, size }
 }
@@ -149,33 +184,42 @@ fn counted(run: &[Entry]) -> u32
     size
 }
 
-/// Takes the oldest entry of some segments away.
+/// Takes the oldest entry in front away.
 #[inline(always)]
-pub(super) fn pop_ahead(more: &mut VecDeque<VecDeque<Entry>>) -> Option<Entry>
-    requires behind { AreBehind more.old.items }
-    requires some { 0 < length more.old.items }
-    ensures items { entries_of more.old.items ≡ option_to_list result ++ entries_of more.new.items }
+pub(super) fn pop_ahead(
+    first: &mut VecDeque<Entry>,
+    more: &mut VecDeque<VecDeque<Entry>>,
+) -> Option<Entry>
+    requires front { AreInFront first.old more.old.items }
+    requires some { 0 < deque_len first.old }
+    ensures items { entries_of (first.old ∷ more.old.items) ≡ option_to_list result ++ entries_of (first.new ∷ more.new.items) }
     ensures some { IsSome result }
-    ensures behind { AreBehind more.new.items }
-    ensures fewer { length more.new.items ≤ length more.old.items }
-    ensures memory { capacity_of more.new.items ≤ capacity_of more.old.items }
+    ensures front { AreInFront first.new more.new.items }
+    ensures memory { capacity_of (first.new ∷ more.new.items) ≤ capacity_of (first.old ∷ more.old.items) }
 {
-    let segment = &mut more[0];
-    let entry = segment.pop_front();
-    if segment.is_empty() {
-        drop_first(more);
+    let entry = first.pop_front();
+    if first.is_empty() {
+        take_next(first, more);
     }
     entry
 }
 
-/// Frees the first segment, which has given all away.
+/// Puts the next segment in the place of the first, which has given all away and is freed.
 // It is rare: apart, a removal saves no registers for it.
 #[cold]
 #[inline(never)]
-fn drop_first(more: &mut VecDeque<VecDeque<Entry>>)
-    ensures { more.new.items ≡ drop 1 more.old.items }
+fn take_next(first: &mut VecDeque<Entry>, more: &mut VecDeque<VecDeque<Entry>>)
+    requires full { AreFull more.old.items }
+    requires few { length more.old.items ≤ most_segments }
+    requires none { deque_len first.old ≡ 0 }
+    ensures items { entries_of (first.new ∷ more.new.items) ≡ entries_of more.old.items }
+    ensures front { AreInFront first.new more.new.items }
+    ensures memory { capacity_of (first.new ∷ more.new.items) ≤ capacity_of more.old.items }
 {
-    drop(more.pop_front());
+    match more.pop_front() {
+        Some(next) => *first = next,
+        None => first.shrink_to_fit(),
+    }
     if more.is_empty() {
         more.shrink_to_fit();
     }

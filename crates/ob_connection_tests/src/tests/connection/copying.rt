@@ -127,7 +127,7 @@ fn room_is_taken_by_eights_and_given_back(rt: HostRuntime) -> Result<(), Fail> {
     connection.shrink_to_fit();
     assert_eq!(rt;
         (none, rooms, kept, connection.room()),
-        (0, [8, 8, 8, 8, 8, 8, 8, 8, 16], 7, 0)
+        (0, [8, 8, 8, 8, 8, 8, 8, 8, 16], 6, 0)
     );
     drop(connection);
     Ok(())

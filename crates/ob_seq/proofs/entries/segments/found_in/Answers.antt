@@ -3,5 +3,5 @@ use Rattle.ob_seq.proofs.entries.segments.found_in.Goals as goal
 
 pub returns : goal.returns
 returns c =
-    found_behind c.args.more.now.items c.index.result.now c.args.place c.len-first.result c.requires.behind c.requires.there
-    c.index.ensures c.len-first.ensures c.if-place-first.false
+    found_behind c.args.first.now c.args.more.now.items c.args.place c.len-count.result c.requires.front.full c.requires.there
+    c.len-count.ensures c.if-place-count.false
