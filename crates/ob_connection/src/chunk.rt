@@ -6,16 +6,20 @@ ghost use Rattle.ob_connection.specs.Obeying.{joined};
 use bytes::{Bytes, BytesMut};
 use std::alloc::{AllocError, Global};
 use std::marker::Model;
+use std::mem;
 
 /// The longest message that shares a chunk, in bytes. A longer one takes memory of its own, so that a chunk ends with
 /// little unused.
 const LONGEST: usize = 2048;
 
-/// How large the first chunk is, in bytes.
+/// How large the first chunk is at least, in bytes.
 const FIRST: usize = 1024;
 
 /// How large a chunk is at most, in bytes.
 const LARGEST: usize = 16384;
+
+/// How many messages wait at least when the next one begins the first chunk, if little was copied before: few would pay for one.
+const SHARING: usize = 4;
 
 /// A block of memory that messages are copied into, one behind the other: each message is a part of it, and it lives as
 /// long as the last of them.
@@ -55,6 +59,11 @@ impl Chunk {
         self.rest.capacity()
     }
 
+    /// How many bytes were copied into it.
+    fn used(&self) -> usize {
+        self.size.saturating_sub(self.room())
+    }
+
     /// Copies these bytes into it.
     fn copy(&mut self, bytes: &[u8]) -> Result<Bytes, AllocError>
         requires { length bytes.now ≤ self.old }
@@ -88,25 +97,35 @@ impl Chunk {
 #[derive(Debug, Drop)]
 pub struct Chunks {
     open: Option<Box<Chunk>>,
+    /// How many bytes the chunks before this one took since nothing waited. While there is none: how many they took before that,
+    /// which is how large the next one is to be, since a server's answers to one request are about as long as to the last.
+    burst: usize,
     alloc: Global,
 }
 
 impl Chunks {
     /// None yet. It does not allocate.
     pub fn new(alloc: Global) -> Chunks {
-        Chunks { open: None, alloc }
+        Chunks {
+            open: None,
+            burst: 0,
+            alloc,
+        }
     }
 
     /// Lets the chunk go: it lives on for the messages that share it.
     pub fn close(&mut self) {
-        self.open = None;
+        if let Some(chunk) = self.open.take() {
+            self.add_to_burst(chunk.used());
+        }
     }
 
-    /// A copy of these bytes as a block: in the chunk if it may share and they are few, and else in memory of its own.
-    pub fn copy(&mut self, bytes: &[u8], shares: bool) -> Result<Bytes, AllocError>
+    /// A copy of these bytes as a block, while as many messages wait: in a chunk if they are few bytes and other messages share it,
+    /// and else in memory of its own.
+    pub fn copy(&mut self, bytes: &[u8], waiting: usize) -> Result<Bytes, AllocError>
         ensures { IfOk result (λ block. block ≡ bytes.now) }
     {
-        if !shares || bytes.len() > LONGEST {
+        if bytes.len() > LONGEST || !self.are_shared(waiting) {
             return Bytes::copy_from_slice(self.alloc, bytes);
         }
         let mut chunk = self.with_room(bytes.len())?;
@@ -115,17 +134,17 @@ impl Chunks {
         block
     }
 
-    /// A copy of these parts as one block, one behind the other, of `count` bytes together.
+    /// A copy of these parts as one block, one behind the other, of `count` bytes together, while as many messages wait.
     pub fn copy_parts(
         &mut self,
         parts: &[&[u8]],
         count: usize,
-        shares: bool,
+        waiting: usize,
     ) -> Result<Bytes, AllocError>
         requires { count ≡ length (joined parts.now) }
         ensures { IfOk result (λ block. block ≡ joined parts.now) }
     {
-        if !shares || count > LONGEST {
+        if count > LONGEST || !self.are_shared(waiting) {
             return Chunk::new(self.alloc, count)?.copy_parts(parts, count);
         }
         let mut chunk = self.with_room(count)?;
@@ -134,15 +153,29 @@ impl Chunks {
         block
     }
 
+    /// Whether a message that is copied while as many wait shares a chunk.
+    fn are_shared(&self, waiting: usize) -> bool {
+        waiting >= SHARING || self.open.is_some() || self.burst >= FIRST
+    }
+
     /// The chunk that is open, if it has room for `count` bytes, and else a new one.
     fn with_room(&mut self, count: usize) -> Result<Box<Chunk>, AllocError>
         ensures { IfOk result (λ chunk. count ≤ box_value chunk) }
     {
-        match self.open.take() {
-            Some(chunk) if chunk.room() >= count => Ok(chunk),
-            Some(chunk) => larger(self.alloc, chunk.size.saturating_mul(2), count),
-            None => larger(self.alloc, FIRST, count),
-        }
+        let size = match self.open.take() {
+            Some(chunk) if chunk.room() >= count => return Ok(chunk),
+            Some(chunk) => {
+                self.add_to_burst(chunk.used());
+                chunk.size.saturating_mul(2)
+            }
+            None => mem::replace(&mut self.burst, 0).max(FIRST),
+        };
+        larger(self.alloc, size, count)
+    }
+
+    /// Counts what a chunk took that is no longer open.
+    fn add_to_burst(&mut self, used: usize) {
+        self.burst = self.burst.saturating_add(used).min(LARGEST);
     }
 }
 

@@ -36,7 +36,7 @@ module _ {Z : Type 0} where
   capacity_behind (segment ∷ segments) last = omega (arith, capacity_behind segments last)
 
   -- full ones have no other place
-  full_capacity : (segments : List (VecDeque Entry Z)) → AreFull segments →
+  pub full_capacity : (segments : List (VecDeque Entry Z)) → AreFull segments →
       capacity_of segments ≡ length segments * segment_room
   full_capacity [] full = refl
   full_capacity (segment ∷ segments) full = omega (arith, full.0.1, full_capacity segments full.1)
@@ -101,14 +101,14 @@ module _ {Z : Type 0} where
 
 -- a segment behind the first stands one further among all in front
 module _ {Z : Type 0} (first : VecDeque Entry Z) (segments : List (VecDeque Entry Z)) where
-  pub stands_behind : (n : ℕ) (segment : VecDeque Entry Z) → 0 < n → segment ≡ get_or segments (n - 1) segment →
+  stands_behind : (n : ℕ) (segment : VecDeque Entry Z) → 0 < n → segment ≡ get_or segments (n - 1) segment →
       segment ≡ get_or (first ∷ segments) n segment
   stands_behind zero segment some is = absurd (omega (arith, some))
   stands_behind (suc n) segment some is =
       let same : suc n - 1 ≡ n = omega arith in
       rw same at is
 
-  pub set_behind_first : (n : ℕ) (segment : VecDeque Entry Z) → 0 < n →
+  set_behind_first : (n : ℕ) (segment : VecDeque Entry Z) → 0 < n →
       first ∷ slice_set segments (n - 1) segment ≡ slice_set (first ∷ segments) n segment
   set_behind_first zero segment some = absurd (omega (arith, some))
   set_behind_first (suc n) segment some =
@@ -260,7 +260,7 @@ module _ (inside : Inside) {laid : Laid} (view : laid_of inside ≡ laid) {place
 module _ (inside : Inside) {laid : Laid} (view : laid_of inside ≡ laid) {place index rest : ℕ}
     (found : IsFoundIn (fronts inside) place index rest) {segment : VecDeque Entry Global}
     (is : segment ≡ get_or (fronts inside) index segment) where
-  pub in_segment : rest < length segment.items
+  in_segment : rest < length segment.items
   in_segment = omega (arith, found.inner segment is, segment.ok)
 
   from_there : drop place (items_of inside)
@@ -321,33 +321,43 @@ module _ (inside : Inside) {laid : Laid} (view : laid_of inside ≡ laid) {place
           capacity = memory k + deque_capacity inside.last;
         })
 
--- entries in front stay so if one of them changes: of the first segment,
-pub first_lent : (inside : Inside) → AreLaid inside → (rest : ℕ) (entry : Entry) →
-    AreLaid (record inside { first = deque_with_item inside.first rest entry })
-first_lent inside sound rest entry = record {
-  front = record {
-    full = sound.front.full;
-    none = sound.front.none;
-    small = sound.front.small;
-    few = sound.front.few;
-  };
-  room = sound.room;
-  small = sound.small;
-}
+-- a place in a segment behind the first
+module _ (inside : Inside) {laid : Laid} (view : laid_of inside ≡ laid) {place index rest : ℕ}
+    (found : IsFoundIn (fronts inside) place index rest) (other : ¬ (index ≡ 0)) {segment : VecDeque Entry Global}
+    (behind : segment ≡ get_or inside.more.items (index - 1) segment) where
+  some : 0 < index
+  some = omega (arith, other)
 
--- or of one behind it
-pub more_lent : (inside : Inside) → AreLaid inside → (segment : VecDeque Entry Global) (index rest : ℕ) (entry : Entry) →
-    rest < length segment.items → index < length inside.more.items → segment ≡ get_or inside.more.items index segment →
-    AreLaid (record inside { more = deque_with_item inside.more index (deque_with_item segment rest entry) })
-more_lent inside sound segment index rest entry inner within is =
-    let other = deque_with_item segment rest entry in
-    let long = length-set inside.more.items index other in record {
-      front = record {
-        full = full_there segment rest inner entry other refl refl refl inside.more.items index sound.front.full within is;
-        none = λ nothing. (omega (arith, long, (sound.front.none nothing).0), (sound.front.none nothing).1);
-        small = sound.front.small;
-        few = omega (arith, long, sound.front.few);
-      };
-      room = sound.room;
-      small = sound.small;
-    }
+  is : segment ≡ get_or (fronts inside) index segment
+  is = stands_behind inside.first inside.more.items index segment some behind
+
+  pub in_more : rest < deque_len segment
+  in_more = found.inner segment is
+
+  pub one_in_more : {entry : Entry} → place < length laid.items → entry ≡ get_or segment.items rest entry →
+      entry ≡ get_or laid.items place entry
+  one_in_more = one_there inside view found is
+
+  module _ (entry : Entry) where
+    abbrev with_lent : Inside
+    with_lent = record inside { more = deque_with_item inside.more (index - 1) (deque_with_item segment rest entry) }
+
+    pub more_lent : AreLaid inside → AreLaid with_lent
+    more_lent sound =
+        let one = deque_with_item segment rest entry in
+        let long = length-set inside.more.items (index - 1) one in record {
+          front = record {
+            full = full_there segment rest (in_segment inside view found is) entry one refl refl refl inside.more.items (index - 1)
+                sound.front.full (omega (arith, found.within, some)) behind;
+            none = λ nothing. (omega (arith, long, (sound.front.none nothing).0), (sound.front.none nothing).1);
+            small = sound.front.small;
+            few = omega (arith, long, sound.front.few);
+          };
+          room = sound.room;
+          small = sound.small;
+        }
+
+    pub lent_more : place < length (entries_of (fronts inside)) → laid_of with_lent ≡ with_entry laid place entry
+    lent_more =
+        lent_there inside view found is entry with_lent
+        (set_behind_first inside.first inside.more.items index (deque_with_item segment rest entry) some) refl

@@ -1,6 +1,5 @@
 -- What waits to be sent, each message with its promise, and for how many messages there is room.
-use Rattle.std.specs.Prelude.{ℕ, ◌+◌, ◌*◌, ◌/◌, Bool, false, List, [], ◌++◌, length, map, if◌then◌else◌, ◌≡◌, ◌≤◌, true, max}
-use Rattle.std.specs.Prelude.{nat_lt}
+use Rattle.std.specs.Prelude.{ℕ, ◌+◌, Bool, false, List, [], ◌++◌, length, map, if◌then◌else◌, ◌≡◌, ◌≤◌, true, ◌==◌, nat_lt}
 use Rattle.ob_types.specs.Marks.{Marks}
 use Rattle.ob_types.specs.declared.promise.Outcome.{Outcome}
 use Rattle.ob_types.specs.declared.promise.Outcome.TheVariants.{Cancelled}
@@ -91,14 +90,14 @@ ended outcome entry = if entry.taken_back then Cancelled else outcome
 abbrev pub spares : Unsent → Bool
 spares unsent = nat_lt (waiting_count unsent) unsent.room
 
--- the room for *n* once it was doubled: for 8 more at least, and in eights
-abbrev pub doubled_room : ℕ → ℕ
-doubled_room count = (count + max 8 count + 7) / 8 * 8
+-- the room for one more than *n* that are fewer than 128: for 8, 32, 64 or 128
+abbrev pub ring_room : ℕ → ℕ
+ring_room count = if count == 0 then 8 else if nat_lt count 32 then 32 else if nat_lt count 64 then 64 else 128
 
--- the room for one more than these, if there was room for *n*: as much if one place is to spare, else the double of fewer than
--- 128, and for 128 more of others
+-- the room for one more than these, if there was room for *n*: as much if one place is to spare, else that of a ring for fewer
+-- than 128, and for 128 more of others
 abbrev pub grown_room : ℕ → ℕ → ℕ
-grown_room count room = if nat_lt count room then room else if nat_lt count 128 then doubled_room count else count + 128
+grown_room count room = if nat_lt count room then room else if nat_lt count 128 then ring_room count else count + 128
 
 -- for how many messages it has room once it takes in one more
 abbrev pub room_for_one_more : Unsent → ℕ
@@ -106,7 +105,7 @@ room_for_one_more unsent = grown_room (waiting_count unsent) unsent.room
 
 -- for how many entries memory may be held at most beside those for which there is room: the places in front that were left
 abbrev pub most_left_behind : ℕ
-most_left_behind = 256
+most_left_behind = 128
 
 -- while *n* wait, memory is held for those for which there is room and for few more, and for no more if nothing waits
 pub record HoldsLittleMore (waiting room capacity : ℕ) : Type 0 where

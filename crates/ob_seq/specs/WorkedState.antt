@@ -80,7 +80,7 @@ WantsOfMemory =
 abbrev pub RoomsAsTheyGrow : Type 0
 RoomsAsTheyGrow =
     map (λ full. grown_room full full) (0 ∷ 7 ∷ 8 ∷ 16 ∷ 33 ∷ 127 ∷ 128 ∷ 300 ∷ [])
-    ≡ 8 ∷ 16 ∷ 16 ∷ 32 ∷ 72 ∷ 256 ∷ 256 ∷ 428 ∷ []
+    ≡ 8 ∷ 32 ∷ 32 ∷ 32 ∷ 64 ∷ 128 ∷ 256 ∷ 428 ∷ []
 
 -- a writable buffer at the low mark and at the high mark: the next byte above high makes it unwritable
 abbrev pub WritableAtTheMarks : Type 0

@@ -131,7 +131,7 @@ impl Contents {
         self.entries.has_place()
     }
 
-    /// For how many entries memory is held, of 64 bytes each: for those for which there is room, and for 256 more at most, since
+    /// For how many entries memory is held, of 64 bytes each: for those for which there is room, and for 128 more at most, since
     /// the places of entries that are gone stay in front of those that share a segment with them. If nothing waits it is for
     /// no more than there is room for. The list of the segments is not counted.
     pub fn capacity(&self) -> usize

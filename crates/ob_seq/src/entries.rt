@@ -6,7 +6,7 @@ ghost use Rattle.std.specs.Borrow.{sem};
 ghost use Rattle.ob_seq.specs.Lent.{LendsEntry};
 ghost use Rattle.std.specs.VecDeque.{deque_capacity, deque_len};
 ghost use Rattle.ob_types.specs.Limits.{greatest_total};
-ghost use Rattle.ob_seq.specs.Unsent.{HoldsLittleMore, LeavesRoom, doubled_room, grown_room, most_left_behind};
+ghost use Rattle.ob_seq.specs.Unsent.{HoldsLittleMore, LeavesRoom, grown_room, ring_room};
 ghost use Rattle.ob_seq.specs.Inside.{counted};
 ghost use Rattle.ob_seq.specs.Laid.{segment_room};
 
@@ -22,14 +22,17 @@ use std::collections::VecDeque;
 use std::marker::Model;
 use std::mem;
 
-/// For how many entries more the ring grows at least, and of which its places are a multiple then.
-const LEAST_ROOM: usize = 8;
+/// For how many entries a ring has room first.
+const FIRST_ROOM: usize = 8;
+
+/// For how many it has room next, before that doubles. Each growth costs as much as to write some ten messages.
+const SECOND_ROOM: usize = 32;
 
 /// Entries, oldest first.
 ///
-/// While few wait they all lie in one ring, the last, which doubles. Once 128 wait and it is full, it becomes a segment in front,
-/// and so does each further one of 128 entries (8 KiB). So none is moved however many wait, and each segment is freed when its last
-/// entry is gone.
+/// While few wait they all lie in one ring, the last, which has room for 8, 32, 64 and then 128. Once it is full then, it becomes a
+/// segment in front, and so does each further one of 128 entries (8 KiB). So none is moved however many wait, and each segment is
+/// freed when its last entry is gone.
 ///
 /// ```text
 ///     first                   more                  last
@@ -79,6 +82,7 @@ impl Entries {
     }
 
     /// How many there are.
+    #[tactic(auto, using(crate::proofs::Laid::countable))]
     pub fn len(&self) -> usize
         ensures { result ≡ length self.now.items }
     {
@@ -86,6 +90,7 @@ impl Entries {
     }
 
     /// How many there may be before memory is taken for one more.
+    #[tactic(auto, using(crate::proofs::Laid::countable))]
     pub fn room(&self) -> usize
         ensures { result ≡ self.now.room }
     {
@@ -129,7 +134,7 @@ impl Entries {
         self.grow()
     }
 
-    /// Makes places for as many again as there are if they are fewer than 128, and else for 128.
+    /// Makes places for 8, 32, 64 or 128 if there are fewer than 128, and else for 128 more.
     // It is rare: apart, a write saves no registers for it.
     #[cold]
     #[inline(never)]
@@ -146,7 +151,7 @@ impl Entries {
         }
         let count = self.last.len();
         if count < SEGMENT {
-            return self.last.reserve_exact(doubled(count) - count);
+            return self.last.reserve_exact(ring_room(count) - count);
         }
         let empty = VecDeque::with_capacity(*self.last.allocator(), SEGMENT)?;
         self.first = mem::replace(&mut self.last, empty);
@@ -231,7 +236,7 @@ impl Entries {
         self.more.shrink_to_fit();
     }
 
-    /// Gives memory back if all lie in the ring, and at most a quarter of it is used: if it has room for more than `kept`, it
+    /// Gives memory back if all lie in the ring, and at most an eighth of it is used: if it has room for more than `kept`, it
     /// keeps room for twice as many as there are but two, and for `kept` at least.
     #[inline(always)]
     pub fn give_back(&mut self, kept: usize)
@@ -241,7 +246,7 @@ impl Entries {
         ensures none { kept ≡ 0 → length self.old.items ≡ 0 → self.new.room ≡ 0 }
     {
         let room = self.last.capacity();
-        if room > kept && self.last.len() <= room / 4 && self.first.is_empty() {
+        if room > kept && self.last.len() <= room / 8 && self.first.is_empty() {
             keep_room(&mut self.last, kept);
         }
     }
@@ -301,15 +306,22 @@ impl Entries {
     }
 }
 
-/// How many places a full ring of `count` has once it was doubled: 8 more at least, and in eights, so that one that gave memory
-/// back grows as it did before.
-fn doubled(count: usize) -> usize
+/// How many places a full ring of `count` has once it grew.
+fn ring_room(count: usize) -> usize
     requires { count < segment_room }
-    ensures value { result ≡ doubled_room count }
+    ensures value { result ≡ ring_room count }
     ensures more { count < result }
-    ensures few { result ≤ most_left_behind }
+    ensures few { result ≤ segment_room }
 {
-    (count + count.max(LEAST_ROOM) + LEAST_ROOM - 1) / LEAST_ROOM * LEAST_ROOM
+    if count == 0 {
+        FIRST_ROOM
+    } else if count < SECOND_ROOM {
+        SECOND_ROOM
+    } else if count < 2 * SECOND_ROOM {
+        2 * SECOND_ROOM
+    } else {
+        SEGMENT
+    }
 }
 
 /// Keeps room for twice as many as there are but two, and for `kept` at least.

@@ -37,7 +37,7 @@ fn each_block_is_counted_and_comes_back() {
     let before = LIVE.get();
     let mut connection = Connection::open(Marks::default(), Estimate::default()).expect("there is memory");
     let opened = LIVE.get() - before;
-    assert!((200..=200 + 16).contains(&opened), "{opened}");
+    assert!((208..=208 + 16).contains(&opened), "{opened}");
     let block = Block::new(&[1; 1000]).expect("there is memory");
     assert!(LIVE.get() - before > 1000);
     for _ in 0..100 {
@@ -80,7 +80,7 @@ fn a_shared_connection_is_counted_and_comes_back() {
     let opened = LIVE.get() - before;
     let second = connection.clone();
     let handle = LIVE.get() - before - opened;
-    assert!((696..=760).contains(&opened) && handle <= 8 + 16, "{opened} {handle}");
+    assert!((712..=776).contains(&opened) && handle <= 8 + 16, "{opened} {handle}");
     for id in (0..100).step_by(2) {
         assert_eq!(second.write(&[2; 100]).expect("it is accepted").id, id);
         assert_eq!(connection.write_owned([3; 50]).expect("it is accepted").id, id + 1);

@@ -19,13 +19,10 @@ use ob_types::{Message, Refusal, pending_size, pending_size_of_length};
 /// The most writes that a connection accepts.
 const MAX_WRITES: u64 = 18446744073709551615;
 
-/// How many messages wait at least when the next one shares a chunk: few would pay for one.
-const SHARING: usize = 4;
-
 impl Connection {
     /// Adds a copy of these bytes behind all others, as `write` adds a block, and returns its promise. Small messages
-    /// that wait together share memory: once four wait, up to 2048 bytes are copied into a chunk of 1 to 16 KiB, which
-    /// lives as long as the last message in it; any other message takes memory of its own. Our own.
+    /// that wait together share memory: once four wait, or if those before took 1 KiB together, up to 2048 bytes are copied into
+    /// a chunk of 1 to 16 KiB, which lives as long as the last message in it; any other message takes memory of its own. Our own.
     ///
     /// Refusals are those of `write`, in its order, and come before anything is copied; `NoMemory` comes also if the
     /// allocator refused the memory of the copy.
@@ -34,7 +31,7 @@ impl Connection {
         ensures room { OnOk result (room_in self.new ≡ room_for_one_more self.old.unsent) }
     {
         let size = self.admits_block(bytes.len())?;
-        let block = self.chunks.copy(bytes, self.contents.count() >= SHARING)?;
+        let block = self.chunks.copy(bytes, self.contents.count())?;
         self.put_block(block, size)
     }
 
@@ -63,9 +60,7 @@ impl Connection {
             return Err(self.refusal_of_too_long());
         };
         let size = self.admits_block(count)?;
-        let block = self
-            .chunks
-            .copy_parts(parts, count, self.contents.count() >= SHARING)?;
+        let block = self.chunks.copy_parts(parts, count, self.contents.count())?;
         self.put_block(block, size)
     }
 

@@ -61,8 +61,8 @@ impl Connection {
     }
 
     /// How many messages may wait before memory is taken for one more. A message takes one place of 64 bytes as long as it
-    /// waits. A write takes memory for places only if none is left: if fewer than 128 wait for as many again, for 8 more at
-    /// least and in eights, and else for 128 more. It does not allocate. Our own.
+    /// waits. A write takes memory for places only if none is left: for 8 in all if nothing waits, and else for the next of 32,
+    /// 64 and 128, or for 128 more if as many wait. It does not allocate. Our own.
     pub fn room(&self) -> usize
         ensures { result ≡ room_in self.now }
     {
@@ -77,7 +77,7 @@ impl Connection {
         self.contents.has_place()
     }
 
-    /// For how many messages it holds places of 64 bytes: for those for which there is room, and for 256 more at most, which are
+    /// For how many messages it holds places of 64 bytes: for those for which there is room, and for 128 more at most, which are
     /// left by messages that are gone. If nothing waits it is as much as there is room for. It does not allocate. Our own; Rust's
     /// `capacity`.
     pub fn capacity(&self) -> usize

@@ -8,12 +8,12 @@ use crate::contents::Contents;
 const KEPT_ROOM: usize = 6;
 
 impl Contents {
-    /// Gives memory back if little of it is used: if all entries lie in one ring that has room for more than 6, and at most a
-    /// quarter of that is used, it keeps room for twice as many as there are but two, and for 6 at least. Once it is closed it keeps
+    /// Gives memory back if little of it is used: if all entries lie in one ring that has room for more than 6, and at most an
+    /// eighth of that is used, it keeps room for twice as many as there are but two, and for 6 at least. Once it is closed it keeps
     /// none. It cannot fail: if the allocator refuses the smaller ring, the entries keep the one that they have.
     ///
-    /// A ring with as many entries as half its room gives nothing back until half of them are gone, and one that gave back
-    /// does not grow until as many were written as it kept; so each entry is moved a few times at most.
+    /// A ring with as many entries as half its room gives nothing back until three quarters of them are gone, and one that gave
+    /// back does not grow until as many were written as it kept; so each entry is moved a few times at most.
     // As at `Contents::add`, of the reply of a removal.
     #[inline(always)]
     pub fn give_back(&mut self)

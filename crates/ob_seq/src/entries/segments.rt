@@ -33,6 +33,7 @@ pub(super) fn without_memory(alloc: Global) -> VecDeque<Entry>
 }
 
 /// How many entries the segments in front have.
+#[tactic(auto, using(crate::proofs::Laid::count_in_front))]
 #[inline(always)]
 pub(super) fn count_of(first: &VecDeque<Entry>, more: &VecDeque<VecDeque<Entry>>) -> usize
     requires { AreInFront first.now more.now.items }
@@ -42,6 +43,7 @@ pub(super) fn count_of(first: &VecDeque<Entry>, more: &VecDeque<VecDeque<Entry>>
 }
 
 /// For how many entries the segments in front have memory.
+#[tactic(auto, using(crate::proofs::Laid::full_capacity))]
 pub(super) fn capacity_of(first: &VecDeque<Entry>, more: &VecDeque<VecDeque<Entry>>) -> usize
     requires { AreInFront first.now more.now.items }
     ensures { result ≡ capacity_of (first.now ∷ more.now.items) }

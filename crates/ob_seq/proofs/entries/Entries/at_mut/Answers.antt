@@ -1,7 +1,7 @@
 use Rattle.std.specs.VecDeque.{deque_with_item}
 use Rattle.ob_seq.specs.Laid.{entries_of, fronts}
-use Rattle.ob_seq.proofs.Words.{◌<◌, ◌-◌, length, arith, refl}
-use Rattle.ob_seq.proofs.Laid.{first_lent, in_segment, lent_last, lent_there, more_lent, one_in_last, one_there, set_behind_first, stands_behind}
+use Rattle.ob_seq.proofs.Words.{◌<◌, length, arith, refl}
+use Rattle.ob_seq.proofs.Laid.{in_more, lent_last, lent_more, lent_there, more_lent, one_in_last, one_in_more, one_there}
 use Rattle.ob_seq.proofs.entries.Entries.at_mut.Goals as goal
 
 pub returns-then-place-ahead : goal.returns-then-place-ahead
@@ -36,40 +36,22 @@ returns-then-index-eq0 c =
 
 pub index_mut-requires-2 : goal.index_mut-requires-2
 index_mut-requires-2 c =
-    let inside = c.self.inside in
-    let segment = c.index_mut-segment.result.now in
-    c.found_in-index.ensures.inner segment
-    (stands_behind inside.first inside.more.items c.found_in-index.result.0 segment (omega (arith, c.if-index-eq0.false))
-    c.index_mut-segment.ensures.value)
+    in_more c.self.inside c.self.view_is c.found_in-index.ensures c.if-index-eq0.false c.index_mut-segment.ensures.value
 
 pub invariant_of-self-lent-2 : goal.invariant_of-self-lent-2
 invariant_of-self-lent-2 c w =
-    let inside = c.self.inside in
-    let segment = c.index_mut-segment.result.now in
-    let found = c.found_in-index.ensures in
-    let is = stands_behind inside.first inside.more.items c.found_in-index.result.0 segment (omega (arith, c.if-index-eq0.false))
-    c.index_mut-segment.ensures.value in
-    more_lent inside c.self.invariant segment (c.found_in-index.result.0 - 1) c.found_in-index.result.1 w
-    (in_segment inside c.self.view_is found is) (omega (arith, found.within, c.if-index-eq0.false)) c.index_mut-segment.ensures.value
+    more_lent c.self.inside c.self.view_is c.found_in-index.ensures c.if-index-eq0.false c.index_mut-segment.ensures.value w
+    c.self.invariant
 
 pub returns : goal.returns
 returns c =
     let inside = c.self.inside in
-    let segment = c.index_mut-segment.result.now in
     let found = c.found_in-index.ensures in
-    let some : 0 < c.found_in-index.result.0 = omega (arith, c.if-index-eq0.false) in
-    let is = stands_behind inside.first inside.more.items c.found_in-index.result.0 segment some c.index_mut-segment.ensures.value in
+    let behind = c.index_mut-segment.ensures.value in
     let ahead : c.args.place < length (entries_of (fronts inside)) = omega (arith, c.count_of-ahead.ensures, c.if-place-ahead.false) in (
-      (
-        refl,
-        λ w.
-            let other = deque_with_item segment c.found_in-index.result.1 w in
-            lent_there inside c.self.view_is found is w
-            (record inside { more = deque_with_item inside.more (c.found_in-index.result.0 - 1) other })
-            (set_behind_first inside.first inside.more.items c.found_in-index.result.0 other some) refl ahead,
-      ),
+      (refl, λ w. lent_more inside c.self.view_is found c.if-index-eq0.false behind w ahead),
       record {
         writes_back = tt;
-        value = one_there inside c.self.view_is found is c.requires c.index_mut-2.ensures.value;
+        value = one_in_more inside c.self.view_is found c.if-index-eq0.false behind c.requires c.index_mut-2.ensures.value;
       },
     )
