@@ -996,7 +996,8 @@ struct limekeel_rooms {
     struct limekeel_chunk *first, *last; /* Limekeel's, as what follows */
     uint8_t *at;                         /* where the next message is made; NULL: there is no chunk */
     size_t left;                         /* and how many bytes there is room for there */
-    uint64_t end;                        /* above the promise of the last message in that chunk; 0: there is none */
+    uint64_t end;                        /* above the promise of the last message in that chunk; 0: there is none. Without a
+                                            chunk: how many bytes those had that waited together last */
 };
 #ifdef __cplusplus
 #define LIMEKEEL_ROOMS {nullptr, nullptr, nullptr, 0, 0}

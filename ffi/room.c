@@ -14,21 +14,35 @@
 struct limekeel_chunk {
     struct limekeel_chunk *next;
     size_t size;
-    uint64_t end; /* above the promise of the last message in it, if it is not the last chunk; 0: there is none */
-    uint64_t unused;
+    uint64_t end;    /* above the promise of the last message in it, if it is not the last chunk; 0: there is none */
+    uint64_t before; /* how many bytes the chunks before it had since there was none */
     uint8_t bytes[];
 };
 
 _Static_assert(sizeof(struct limekeel_chunk) % 16 == 0, "the bytes of a chunk follow it");
 
-/* A message alone takes what it asks for, and more that wait share. */
+static size_t at_most_large(size_t size)
+{
+    return size > LARGE ? LARGE : size;
+}
+
+/* A message alone takes what it asks for, and more that wait share. After some that waited together the first takes what they did
+ * and an eighth, since as many are likely to come again, and one may be shorter than it asks for. */
 static size_t next_size(const struct limekeel_rooms *rooms, size_t most)
 {
-    if (!rooms->last)
-        return most;
+    if (!rooms->last) {
+        size_t again = at_most_large((size_t)rooms->end + (size_t)rooms->end / 8);
+        return most > again ? most : again;
+    }
     size_t twice = 2 * rooms->last->size;
-    size_t shared = twice < SMALL ? SMALL : twice > LARGE ? LARGE : twice;
+    size_t shared = twice < SMALL ? SMALL : at_most_large(twice);
     return most > shared ? most : shared;
+}
+
+/* How many bytes the chunks had since there was none. */
+static size_t burst_of(const struct limekeel_rooms *rooms)
+{
+    return at_most_large((size_t)rooms->last->before + (rooms->last->size - rooms->left));
 }
 
 uint8_t *limekeel_reserve_chunk(struct limekeel_rooms *rooms, size_t most)
@@ -43,6 +57,7 @@ uint8_t *limekeel_reserve_chunk(struct limekeel_rooms *rooms, size_t most)
     struct limekeel_chunk *chunk = (struct limekeel_chunk *)(void *)memory.at;
     *chunk = (struct limekeel_chunk){.size = size};
     if (rooms->last) {
+        chunk->before = burst_of(rooms);
         rooms->last->end = rooms->end;
         rooms->last->next = chunk;
     } else {
@@ -59,7 +74,7 @@ static void let_go_of_first(struct limekeel_rooms *rooms)
 {
     struct limekeel_chunk *first = rooms->first;
     if (first == rooms->last)
-        *rooms = (struct limekeel_rooms)LIMEKEEL_ROOMS;
+        *rooms = (struct limekeel_rooms){.end = burst_of(rooms)};
     else
         rooms->first = first->next;
     limekeel_dealloc((uint8_t *)first);

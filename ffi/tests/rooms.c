@@ -10,6 +10,7 @@
 
 #define MANY 600
 #define LONGEST 40
+#define MOST 16384 /* how large a chunk is at most that was not asked for larger */
 
 static uint8_t nowhere;
 static size_t live; /* blocks that were given and not freed */
@@ -99,18 +100,18 @@ static void come_in_order(void)
     expect("nothing is kept", rooms.first == NULL && rooms.last == NULL);
 }
 
-static void lie_together(void)
+/* Many, from this promise on, in so many pieces at most. */
+static void lie_together(size_t first, size_t most)
 {
     struct limekeel_piece pieces[MANY];
-    size_t first = MANY, parts = 1;
-    for (size_t message = first; message < 2 * MANY; message++)
+    size_t parts = 1;
+    for (size_t message = first; message < first + MANY; message++)
         made(message, LONGEST);
     expect("flush", limekeel_flush(&connection).count == MANY);
     expect("gather", limekeel_gather(&connection, pieces, MANY, UINT32_MAX).count == MANY);
     for (size_t at = 1; at < MANY; at++)
         parts += pieces[at].at != pieces[at - 1].at + pieces[at - 1].length;
-    /* 10 KB, in what one asks for and in chunks of 1, 2, 4 and 8 KiB */
-    expect("in few pieces", parts <= 5);
+    expect("in few pieces", parts <= most);
     struct limekeel_taken gone = limekeel_fail_flushed(&connection, 1, true);
     limekeel_let_go(&rooms, gone.to - 1);
     expect("the last keeps its chunk alone", rooms.first != NULL && rooms.first == rooms.last);
@@ -118,10 +119,23 @@ static void lie_together(void)
     expect("and lets it go", rooms.first == NULL);
 }
 
+/* As many, each gone before the next is made: it takes what it asks for. */
+static void come_one_by_one(size_t first)
+{
+    for (size_t message = first; message < first + MANY; message++) {
+        made(message, LONGEST);
+        if (message > first)
+            expect("no more than that is taken", rooms.left < LONGEST);
+        expect("flush", limekeel_flush(&connection).count == 1);
+        limekeel_let_go(&rooms, limekeel_fail_flushed(&connection, 1, true).to);
+        expect("it is gone", rooms.first == NULL);
+    }
+}
+
 /* Several answers as one message, up to the last byte that there is room for. Returns the next promise. */
 static size_t one_of_several(size_t first)
 {
-    static uint8_t wanted[4 * LONGEST + 16];
+    static uint8_t wanted[MOST];
     expect("nothing is left in none", limekeel_left(&rooms) == 0);
     uint8_t *room = limekeel_reserve(&rooms, 4 * LONGEST);
     size_t left = limekeel_left(&rooms), filled = 0;
@@ -184,13 +198,14 @@ static void refusals(size_t first)
     expect("so is more than there is", limekeel_reserve(&rooms, SIZE_MAX) == NULL && limekeel_reserve(&rooms, SIZE_MAX - 9) == NULL);
     made(first, LONGEST);
     refuses = true;
-    expect("and the next chunk", limekeel_reserve(&rooms, 500) == NULL);
+    size_t more = limekeel_left(&rooms) + 500;
+    expect("and the next chunk", limekeel_reserve(&rooms, more) == NULL);
     refuses = false;
     /* what is reserved and not written comes to nothing */
-    uint8_t *room = limekeel_reserve(&rooms, 500);
+    uint8_t *room = limekeel_reserve(&rooms, more);
     expect("there is room", room != NULL);
-    memset(room, 'x', 500);
-    expect("the same again", limekeel_reserve(&rooms, 500) == room);
+    memset(room, 'x', more);
+    expect("the same again", limekeel_reserve(&rooms, more) == room);
     expect("no byte", limekeel_write_reserved(&rooms, &connection, 0).id == first + 1);
     expect("flush", limekeel_flush(&connection).count == 2);
     struct limekeel_taken gone = limekeel_give_up(&connection, 1);
@@ -264,8 +279,13 @@ int main(void)
 {
     expect("open", limekeel_open(&connection, 32768, 65536, 96, 8) == LIMEKEEL_OK);
     come_in_order();
-    lie_together();
-    refusals(a_refused_write(one_of_several(2 * MANY)));
+    /* 10 KB, in a chunk for what came before and in another */
+    lie_together(MANY, 2);
+    come_one_by_one(2 * MANY);
+    /* in what one asks for and in chunks of 1, 2, 4 and 8 KiB; and in one for as many again */
+    lie_together(3 * MANY, 5);
+    lie_together(4 * MANY, 1);
+    refusals(a_refused_write(one_of_several(5 * MANY)));
     of_a_managed_one();
     of_one_within_a_budget();
     expect("nothing is live", live == 0);

@@ -13,6 +13,8 @@ use std::ptr::NonNull;
 
 /// For how many owners more there is room once there was none, and for how many it is kept if none is left.
 const FEW: usize = 8;
+/// For how many owners there is room at once at most, if as many came before.
+const MANY: u32 = 256;
 /// How large the second chunk is at least, and each at most that was not asked for larger, in bytes: as in the archive.
 const SMALL: usize = 1024;
 const LARGE: usize = 16384;
@@ -81,10 +83,16 @@ impl<T: ?Sized> Drop for Owner<T> {
 pub(crate) struct Lent {
     /// Each with the last promise that has a part in it. A chunk may stand behind owners of later promises.
     owners: VecDeque<(u64, Kept)>,
+    /// How many of them came since there was none; and how many came before that, for which it makes room again.
+    came: u32,
+    came_before: u32,
     /// What messages are made in, one behind the other. It is longer while one is made, and never grows past its capacity.
     chunk: Vec<u8>,
     /// The promise of the last message in it.
     last: u64,
+    /// How many bytes the chunks before it had since all were gone, at most `LARGE`. While there is none: how many all had before
+    /// that: as many are likely to come again, so it has room for them and an eighth, since one may be shorter than it asks for.
+    burst: u32,
     /// Whether full chunks were among the owners since there was no room for any.
     had_full: bool,
 }
@@ -109,12 +117,14 @@ impl Lent {
 
     #[cold]
     fn grow(&mut self) -> Result<(), Refusal> {
-        self.owners.try_reserve(FEW).map_err(|_| Refusal::NoMemory)
+        let again = take(&mut self.came_before) as usize;
+        self.owners.try_reserve(FEW.max(again)).map_err(|_| Refusal::NoMemory)
     }
 
     /// Keeps an owner, for which `make_room` made room, under the last promise that has a part in it.
     #[inline]
     pub(crate) fn keep(&mut self, last: u64, owner: Kept) {
+        self.came = self.came.saturating_add(1);
         self.owners.push_back((last, owner));
     }
 
@@ -131,7 +141,9 @@ impl Lent {
         let refused = |_| Refusal::NoMemory;
         if self.chunk.is_empty() {
             // a message alone takes what it asks for
-            next.try_reserve_exact(most).map_err(refused)?;
+            let again = (self.burst + self.burst / 8) as usize;
+            next.try_reserve_exact(most.max(again.min(LARGE))).map_err(refused)?;
+            self.burst = 0;
             self.chunk = next;
             return Ok(());
         }
@@ -141,8 +153,14 @@ impl Lent {
         self.make_room()?;
         self.had_full = true;
         let full = replace(&mut self.chunk, next);
+        self.add_to_burst(full.len());
         self.keep(self.last, Kept::List(full));
         Ok(())
+    }
+
+    /// Counts what a chunk had that is full or gone.
+    fn add_to_burst(&mut self, length: usize) {
+        self.burst = (self.burst as usize + length).min(LARGE) as u32;
     }
 
     /// How many bytes the chunk has.
@@ -207,9 +225,12 @@ impl Lent {
         // who lends owners one by one keeps room for some, and who copies or makes messages none
         if self.had_full || self.owners.capacity() > FEW {
             self.give_back();
+        } else if self.owners.is_empty() {
+            self.came = 0;
         }
         if self.last < end {
-            drop(take(&mut self.chunk));
+            let gone = take(&mut self.chunk);
+            self.add_to_burst(gone.len());
         }
     }
 
@@ -233,6 +254,8 @@ impl Lent {
         if self.owners.is_empty() {
             self.owners = VecDeque::new();
             self.had_full = false;
+            self.came_before = self.came.min(MANY);
+            self.came = 0;
         }
     }
 }

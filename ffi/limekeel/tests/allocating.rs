@@ -150,6 +150,61 @@ fn copies_of_few_bytes_share_memory_and_keep_none_once_they_are_sent() {
     assert_eq!(LIVE.get(), kept, "what it keeps");
 }
 
+/// How often a call asks for memory.
+fn asked_by(call: impl FnOnce()) -> u64 {
+    let before = ASKED.get();
+    call();
+    ASKED.get() - before
+}
+
+/// Sends all that was written so far, which is this many bytes.
+fn send_all(connection: &mut Connection, bytes: u64) {
+    let _ = connection.flush().expect("it is open");
+    let _ = connection.take_sent(bytes).expect("they wait");
+    assert_eq!(connection.counts().waiting, 0);
+}
+
+#[test]
+fn as_many_copies_as_before_take_memory_once() {
+    let mut connection = Connection::open(Marks::default(), Estimate::default()).expect("there is memory");
+    let kept = LIVE.get();
+    let mut turn = |count: u64| {
+        let asked = asked_by(|| {
+            for byte in 0..count {
+                let _ = connection.write(&[byte as u8; 64]).expect("it is accepted");
+            }
+        });
+        let held = LIVE.get() - kept;
+        send_all(&mut connection, count * 64);
+        assert_eq!(LIVE.get(), kept, "what it keeps");
+        (asked, held)
+    };
+    assert!(turn(32).0 > 1);
+    assert_eq!([turn(32).0, turn(36).0], [1, 1]);
+    // one alone takes as much once, and then no more than it needs
+    assert_eq!([turn(1).0, turn(1).0], [1, 1]);
+    assert!(turn(1).1 < 128);
+}
+
+#[test]
+fn as_many_owners_as_before_take_memory_once() {
+    let mut connection = Connection::open(Marks::default(), Estimate::default()).expect("there is memory");
+    let mut turn = |count: usize| {
+        let lists = vec![vec![1; 100]; count];
+        let asked = asked_by(|| {
+            for list in lists {
+                let _ = connection.write_owned(list).expect("it is accepted");
+            }
+        });
+        send_all(&mut connection, count as u64 * 100);
+        asked
+    };
+    assert!(turn(100) > 1);
+    assert_eq!([turn(100), turn(1), turn(1)], [1, 1, 1]);
+    // room for few stays
+    assert_eq!([turn(1), turn(8)], [0, 0]);
+}
+
 #[test]
 fn a_copy_is_refused_as_the_archive_refuses_it() {
     let mut connection = Connection::open(Marks::default(), Estimate::default()).expect("there is memory");
