@@ -23,7 +23,10 @@ static size_t joined(struct iovec *slices, size_t count)
 {
     size_t last = 0;
     const uint8_t *end = end_of(slices);
-    for (size_t at = 1; at < count; at++) {
+    /* those before the first that joins another stay as they are */
+    while (last + 1 < count && (const uint8_t *)slices[last + 1].iov_base != end)
+        end = end_of(&slices[++last]);
+    for (size_t at = last + 1; at < count; at++) {
         const uint8_t *next = end_of(&slices[at]);
         if ((const uint8_t *)slices[at].iov_base != end) {
             slices[last].iov_len = (size_t)(end - (const uint8_t *)slices[last].iov_base);

@@ -331,9 +331,10 @@ pub(crate) unsafe fn as_slices<'a>(places: &[Place]) -> &[IoSlice<'a>] {
 pub(crate) fn joined(pieces: &mut [sys::Piece]) -> usize {
     let end_of = |piece: sys::Piece| piece.at.wrapping_add(piece.length);
     let length_to = |end: *const u8, piece: sys::Piece| end as usize - piece.at as usize;
-    let Some(first) = pieces.first() else { return 0 };
-    let (mut last, mut end) = (0, end_of(*first));
-    for at in 1..pieces.len() {
+    // those before the first that joins another stay as they are
+    let Some(apart) = pieces.windows(2).position(|two| end_of(two[0]) == two[1].at) else { return pieces.len() };
+    let (mut last, mut end) = (apart, end_of(pieces[apart]));
+    for at in apart + 1..pieces.len() {
         let piece = pieces[at];
         if piece.at != end {
             pieces[last].length = length_to(end, pieces[last]);
