@@ -13,7 +13,7 @@
 #define ENTRY 64   /* bytes of an entry, at most */
 #define COPY 64    /* bytes of a copy's own memory beside its bytes, at most */
 #define CHUNK 20000 /* bytes of a chunk that small copies share, with what it takes beside its own, at most */
-#define OPENED 200 /* bytes of a connection where nothing waits and nothing ever did, at most */
+#define OPENED 208 /* bytes of a connection where nothing waits and nothing ever did, at most */
 #define MANY 100000
 
 static uint8_t nowhere;

@@ -10,7 +10,7 @@
 #include "limekeel.h"
 
 #define OVER 16 /* before each block stands how long it is */
-#define IDLE 200
+#define IDLE 208
 #define BURST (IDLE + 6 * 64) /* with the ring of 6 entries that is kept after a burst */
 #define MANY 100000
 
