@@ -184,21 +184,30 @@ static void together_in_memory(void)
     closed(&connection);
 }
 
-/* More messages than the system takes slices go in one call, if few of them lie apart. */
+/* Of some bytes, one in each message. */
+static void many_sent(struct limekeel_connection *connection, size_t many)
+{
+    for (size_t at = 0; at < many; at++) {
+        uint8_t byte = (uint8_t)at;
+        expect("write", limekeel_write(connection, &byte, 1).status == LIMEKEEL_OK);
+    }
+    expect("flush", limekeel_flush(connection).count == many);
+    SCRIPT({0, 65536});
+    struct limekeel_sent sent = limekeel_send(connection, -1, 8);
+    expect("all are sent at once", sent.ending == LIMEKEEL_ENDED_DRAINED && asked == 1 && offered_bytes == many);
+    for (size_t at = 0; at < took_bytes; at++)
+        expect("in order", took[at] == (uint8_t)at);
+}
+
+/* More messages than the system takes slices go in one call, if few of them lie apart; and as many again lie together. */
 static void many_together(void)
 {
     struct limekeel_connection connection = opened(1 << 20, 2 << 20);
     size_t many = LIMEKEEL_PIECES + LIMEKEEL_PIECES / 2;
-    for (size_t at = 0; at < many; at++) {
-        uint8_t byte = (uint8_t)at;
-        expect("write", limekeel_write(&connection, &byte, 1).status == LIMEKEEL_OK);
-    }
-    expect("flush", limekeel_flush(&connection).count == many);
-    SCRIPT({0, 65536});
-    struct limekeel_sent sent = limekeel_send(&connection, -1, 8);
-    expect("all are sent at once", sent.ending == LIMEKEEL_ENDED_DRAINED && asked == 1 && offered_bytes == many);
-    for (size_t at = 0; at < took_bytes; at++)
-        expect("in order", took[at] == (uint8_t)at);
+    many_sent(&connection, many);
+    expect("the first four lie apart, and the others in two chunks", offered_slices <= 6);
+    many_sent(&connection, many - 4);
+    expect("there is a chunk for as many as shared one", offered_slices == 1);
     closed(&connection);
 }
 
