@@ -31,7 +31,7 @@ use std::marker::Model;
 /// Only a write can run out of memory, and what is gone takes none. What waits takes entries of 64 bytes, beside the memory
 /// of the messages. While few wait they lie in one ring, and once 128 wait in segments of 128, each of which is freed when its last
 /// entry is gone. A connection with nothing written has neither. After each removal and each failing a ring in which all lie
-/// has room for fewer than eight times as many as wait, or for 6; a close gives it all back. If
+/// has room for fewer than eight times as many as wait, or for 4; a close gives it all back. If
 /// the allocator refuses the smaller ring, the connection keeps the one that it has until the next removal.
 #[repr(C)]
 #[derive(Debug, Drop)]

@@ -94,10 +94,6 @@ with_bit_0 n (suc i) =
 pub bit_or_one : (n : ℕ) → bit_or n 1 ≡ n / 2 * 2 + 1
 bit_or_one n = same_from_bits _ _ (with_bit_0 n)
 
--- a word that is odd has its mark
-pub marked_stays : (word : ℕ) → ¬ (word % 2 ≡ 0) → with_mark true word ≡ word
-marked_stays word odd = omega (arith, odd)
-
 module _ (settings : Settings) (commands : List Command) where
   abbrev digits : ℕ → Bool
   digits = word_digits (mark_after settings commands) (user_bit commands)

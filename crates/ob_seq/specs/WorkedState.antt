@@ -76,11 +76,11 @@ WantsOfMemory =
     map takes_no_memory one_of_each
     ≡ false ∷ true ∷ true ∷ true ∷ false ∷ true ∷ true ∷ false ∷ false ∷ true ∷ true ∷ []
 
--- the room for one more than 0, 7, 8, 16, 33, 127, 128 and 300 messages that have no place to spare
+-- the room for one more than these numbers of messages that have no place to spare
 abbrev pub RoomsAsTheyGrow : Type 0
 RoomsAsTheyGrow =
-    map (λ full. grown_room full full) (0 ∷ 7 ∷ 8 ∷ 16 ∷ 33 ∷ 127 ∷ 128 ∷ 300 ∷ [])
-    ≡ 8 ∷ 32 ∷ 32 ∷ 32 ∷ 64 ∷ 128 ∷ 256 ∷ 428 ∷ []
+    map (λ full. grown_room full full) (0 ∷ 3 ∷ 4 ∷ 31 ∷ 32 ∷ 63 ∷ 64 ∷ 127 ∷ 128 ∷ 300 ∷ [])
+    ≡ 4 ∷ 4 ∷ 32 ∷ 32 ∷ 64 ∷ 64 ∷ 128 ∷ 128 ∷ 256 ∷ 428 ∷ []
 
 -- a writable buffer at the low mark and at the high mark: the next byte above high makes it unwritable
 abbrev pub WritableAtTheMarks : Type 0

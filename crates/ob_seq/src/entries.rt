@@ -23,14 +23,14 @@ use std::marker::Model;
 use std::mem;
 
 /// For how many entries a ring has room first.
-const FIRST_ROOM: usize = 8;
+const FIRST_ROOM: usize = 4;
 
 /// For how many it has room next, before that doubles. Each growth costs as much as to write some ten messages.
 const SECOND_ROOM: usize = 32;
 
 /// Entries, oldest first.
 ///
-/// While few wait they all lie in one ring, the last, which has room for 8, 32, 64 and then 128. Once it is full then, it becomes a
+/// While few wait they all lie in one ring, the last, which has room for 4, 32, 64 and then 128. Once it is full then, it becomes a
 /// segment in front, and so does each further one of 128 entries (8 KiB). So none is moved however many wait, and each segment is
 /// freed when its last entry is gone.
 ///
@@ -134,7 +134,7 @@ impl Entries {
         self.grow()
     }
 
-    /// Makes places for 8, 32, 64 or 128 if there are fewer than 128, and else for 128 more.
+    /// Makes places for 4, 32, 64 or 128 if there are fewer than 128, and else for 128 more.
     // It is rare: apart, a write saves no registers for it.
     #[cold]
     #[inline(never)]
@@ -236,8 +236,8 @@ impl Entries {
         self.more.shrink_to_fit();
     }
 
-    /// Gives memory back if all lie in the ring, and at most an eighth of it is used: if it has room for more than `kept`, it
-    /// keeps room for twice as many as there are but two, and for `kept` at least.
+    /// Gives memory back if all lie in the ring, it has room for more than `kept`, and at most an eighth of it is used: all but room
+    /// for twice as many as there are, and for `kept` at least.
     #[inline(always)]
     pub fn give_back(&mut self, kept: usize)
         ensures items { self.new.items ≡ self.old.items }
@@ -306,14 +306,14 @@ impl Entries {
     }
 }
 
-/// How many places a full ring of `count` has once it grew.
+/// How many places a full ring of `count` has once it grew: 4, 32, 64 or 128.
 fn ring_room(count: usize) -> usize
     requires { count < segment_room }
     ensures value { result ≡ ring_room count }
     ensures more { count < result }
     ensures few { result ≤ segment_room }
 {
-    if count == 0 {
+    if count < FIRST_ROOM {
         FIRST_ROOM
     } else if count < SECOND_ROOM {
         SECOND_ROOM
@@ -324,8 +324,9 @@ fn ring_room(count: usize) -> usize
     }
 }
 
-/// Keeps room for twice as many as there are but two, and for `kept` at least.
-// But two: a ring of 16 has 6 then, and is not made smaller twice. It is rare: apart, a removal saves no registers for it.
+/// Keeps room for twice as many as there are, and for `kept` at least.
+// An empty one stays in part, where it lies: most often it grows there again, and glibc keeps the pages in front of it. It is rare:
+// apart, a removal saves no registers for it.
 #[cold]
 #[inline(never)]
 fn keep_room(ring: &mut VecDeque<Entry>, kept: usize)
@@ -334,6 +335,5 @@ fn keep_room(ring: &mut VecDeque<Entry>, kept: usize)
     ensures less { deque_capacity ring.new ≤ deque_capacity ring.old }
     ensures none { kept ≡ 0 → deque_len ring.old ≡ 0 → deque_capacity ring.new ≡ 0 }
 {
-    let nearly_twice = ring.len().saturating_mul(2).saturating_sub(2);
-    ring.shrink_to(kept.max(nearly_twice));
+    ring.shrink_to(ring.len().saturating_mul(2).max(kept));
 }

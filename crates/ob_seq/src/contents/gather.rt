@@ -55,5 +55,15 @@ fn push_copy(gathered: &mut Vec<Bytes>, bytes: &Bytes) -> Result<(), AllocError>
 pub(super) fn has_room(count: usize, max_count: usize, length: u64, room: u64) -> bool
     ensures { result ≡ (nat_lt count max_count && (nat_le count 0 || nat_le length room)) }
 {
-    count < max_count && (count == 0 || length <= room)
+    count < max_count && (length <= room || is_first(count))
+}
+
+/// Whether no block goes before this one.
+// Few blocks find no room: apart, the others are not tested for it.
+#[cold]
+#[inline(never)]
+fn is_first(count: usize) -> bool
+    ensures { result ≡ nat_le count 0 }
+{
+    count == 0
 }

@@ -42,12 +42,11 @@ pub fn after_rise(marks: WaterMark, word: u32, size: u32, total: u32) -> u32
     }
 }
 
-/// Whether a rise to `total` bytes can change the word: it cannot below the high mark, nor once the mark is set.
-#[tactic(auto, using(crate::proofs::Word::marked_stays))]
-pub fn can_rise(marks: WaterMark, word: u32, total: u32) -> bool
-    ensures { (size : ℕ) → result ≡ false → word_after_rise marks word size total ≡ word }
+/// Whether a rise to `total` bytes can change a word: up to the high mark it cannot.
+pub fn can_rise(marks: WaterMark, total: u32) -> bool
+    ensures { (word size : ℕ) → result ≡ false → word_after_rise marks word size total ≡ word }
 {
-    total > marks.high() && word % 2 == 0
+    total > marks.high()
 }
 
 /// The word after the pending bytes fell by `size` to `total`, with notice. A fall by 0 is none.

@@ -60,18 +60,19 @@ impl Contents {
         let Ok(()) = self.entries.make_room() else {
             return Err(message);
         };
+        // Before the entry, behind which it would be read once more.
+        self.total += size;
         self.entries.push_back_reserved(Entry {
             message,
             progress: 0,
             size,
             taken_back: false,
         });
-        self.total += size;
-        let before = self.word;
-        // Most often it stays, and no write waits then for the word of the one before.
-        if !word::can_rise(self.marks, before, self.total) {
+        // Most often the word stays, and no write waits then for that of the one before.
+        if !word::can_rise(self.marks, self.total) {
             return Ok(None);
         }
+        let before = self.word;
         self.word = word::after_rise(self.marks, before, size, self.total);
         Ok(Change::between(before, self.word))
     }

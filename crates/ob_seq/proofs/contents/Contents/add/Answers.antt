@@ -36,7 +36,7 @@ pub returns-then-not-can_rise-clause-ok : goal.returns-then-not-can_rise-clause-
 returns-then-not-can_rise-clause-ok c gone =
     added c.self.inside c.args.self.now c.self.view_is c.self.invariant c.args.message c.args.size c.self.inside.word gone
     c.make_room.new.self.items c.push_back_reserved.new.self.items c.in-Ok.ensures.items c.push_back_reserved.ensures.items
-    (sym (c.if-not-can_rise.ensures c.args.size refl))
+    (sym (c.if-not-can_rise.ensures c.self.inside.word c.args.size refl))
 
 pub returns-clause-ok : goal.returns-clause-ok
 returns-clause-ok c gone =
