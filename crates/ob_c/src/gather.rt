@@ -97,7 +97,17 @@ fn lay(connection: &Connection, pieces: &mut [Piece], max_bytes: u32) -> usize
 fn goes_along(count: usize, most: usize, length: u64, room: u64) -> bool
     ensures { result ≡ (nat_lt count most && (nat_le count 0 || nat_le length room)) }
 {
-    count < most && (count == 0 || length <= room)
+    count < most && (length <= room || is_first(count))
+}
+
+/// Whether no block goes before this one.
+// Few blocks find no room: apart, the others are not tested for it.
+#[cold]
+#[inline(never)]
+fn is_first(count: usize) -> bool
+    ensures { result ≡ nat_le count 0 }
+{
+    count == 0
 }
 
 /// The number of what stands in front, if `count` pieces were filled.

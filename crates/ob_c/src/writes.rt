@@ -52,31 +52,36 @@ pub extern "C" fn limekeel_write_block(handle: &mut Handle, block: &mut Block) -
 pub extern "C" fn limekeel_write_lent_bytes(handle: &mut Handle, bytes: &'static [u8]) -> Written
     ensures { ObeysFor handle.old.value (Write (AsBlock bytes.now)) written_reply written_in_c result handle.new.value }
 {
-    if !has_place(handle) {
+    if !takes_at_once(handle, bytes.len()) {
         // Returned as it is, the answer of a write goes through memory too, and is read there by other pieces than it was
         // written in, for which the processor waits.
-        let Written { status, change, id } = lend_growing(handle, bytes);
+        let Written { status, change, id } = lend_at_length(handle, bytes);
         return Written { status, change, id };
     }
     Written::of(handle.command(|connection| write(connection, lent(bytes))))
 }
 
-/// The same of a connection that grows by it, or of none.
+/// The same of a connection that grows by it, of one that refuses it, or of none.
 // It is rare: apart, a write saves no registers for it. Each of the two has a closure of its own, and so in one piece with it.
 #[cold]
 #[inline(never)]
-fn lend_growing(handle: &mut Handle, bytes: &'static [u8]) -> Written
+fn lend_at_length(handle: &mut Handle, bytes: &'static [u8]) -> Written
     ensures { ObeysFor handle.old.value (Write (AsBlock bytes.now)) written_reply written_in_c result handle.new.value }
 {
     Written::of(handle.command(|connection| write(connection, lent(bytes))))
 }
 
-/// Whether there is a connection, and a place in it for one more message.
+/// Whether there is a connection that takes in a block of *n* bytes without growing.
+// A write asks the same. Asked before, nothing is left there but to write, and what tells refusals apart takes none of its registers.
 #[inline(always)]
-fn has_place(handle: &mut Handle) -> bool
+fn takes_at_once(handle: &mut Handle, n: usize) -> bool
     ensures { handle.new.value ≡ handle.old.value }
 {
-    handle.is_open() && handle.reach().has_place()
+    if !handle.is_open() {
+        return false;
+    }
+    let connection = handle.reach();
+    connection.has_place() && connection.refusal_of_length(n).is_none()
 }
 
 /// Writes a region of `length` bytes, which the transport sends by itself.
