@@ -9,7 +9,7 @@
 
 #include "limekeel.h"
 
-#define SMALL 6    /* entries for which a ring keeps room */
+#define SMALL 4    /* entries for which a ring keeps room */
 #define ENTRY 64   /* bytes of an entry, at most */
 #define COPY 64    /* bytes of a copy's own memory beside its bytes, at most */
 #define CHUNK 20000 /* bytes of a chunk that small copies share, with what it takes beside its own, at most */

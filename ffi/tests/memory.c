@@ -11,7 +11,7 @@
 
 #define OVER 16 /* before each block stands how long it is */
 #define IDLE 208
-#define BURST (IDLE + 6 * 64) /* with the ring of 6 entries that is kept after a burst */
+#define BURST (IDLE + 4 * 64) /* with the ring of 4 entries that is kept after a burst */
 #define MANY 100000
 
 static uint8_t nowhere;

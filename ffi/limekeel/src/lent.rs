@@ -15,6 +15,8 @@ use std::ptr::NonNull;
 const FEW: usize = 8;
 /// For how many owners there is room at once at most, if as many came before.
 const MANY: u32 = 256;
+/// How large a chunk is at most, in bytes, that is kept when all in it are gone.
+const KEPT: usize = 128;
 /// How large the second chunk is at least, and each at most that was not asked for larger, in bytes: as in the archive.
 const SMALL: usize = 1024;
 const LARGE: usize = 16384;
@@ -229,9 +231,19 @@ impl Lent {
             self.came = 0;
         }
         if self.last < end {
-            let gone = take(&mut self.chunk);
-            self.add_to_burst(gone.len());
+            self.let_go_of_chunk();
         }
+    }
+
+    /// Lets go of the chunk, in which no message has a part any more. A small one stays for the next message: who writes few bytes at a
+    /// time allocates once. No chunk was before it then, since the second is larger.
+    fn let_go_of_chunk(&mut self) {
+        if self.chunk.capacity() <= KEPT {
+            self.chunk.clear();
+            return;
+        }
+        let gone = take(&mut self.chunk);
+        self.add_to_burst(gone.len());
     }
 
     /// The same, if there is any: small enough to be a piece of its caller.
@@ -247,6 +259,14 @@ impl Lent {
     #[inline]
     pub(crate) fn next_below(&mut self, end: u64) -> Option<Kept> {
         if self.owners.front()?.0 < end { self.owners.pop_front().map(|(_, owner)| owner) } else { None }
+    }
+
+    /// Keeps no memory for what is not there.
+    pub(crate) fn shrink(&mut self) {
+        self.give_back();
+        if self.chunk.is_empty() {
+            self.chunk = Vec::new();
+        }
     }
 
     /// Keeps no room for owners if there are none.

@@ -63,7 +63,6 @@ impl Managed {
     }
 
     commands! {
-        shrink_to_fit() -> u32 = limekeel_managed_shrink_to_fit;
         free() -> u32 = limekeel_managed_free;
         finish() -> sys::Truth = limekeel_managed_finish;
         tick(now: u64) -> sys::Truth = limekeel_managed_tick;
@@ -77,6 +76,12 @@ impl Managed {
     }
 
     asks_ahead! { limekeel_managed_note_newest }
+
+    pub(crate) fn shrink_to_fit(&mut self) {
+        self.lent.shrink();
+        // SAFETY: as of a command. An open connection cannot refuse it.
+        unsafe { sys::limekeel_managed_shrink_to_fit(&mut self.inner) };
+    }
 
     removals! { sys::ToldTaken, taken;
         take_sent(n: u64) = limekeel_managed_take_sent;

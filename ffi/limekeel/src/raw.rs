@@ -220,7 +220,7 @@ impl Handle {
     asks_ahead! { limekeel_note_newest }
 
     pub(crate) fn shrink_to_fit(&mut self) {
-        self.lent.give_back();
+        self.lent.shrink();
         // SAFETY: as of a command. An open connection cannot refuse it.
         unsafe { sys::limekeel_shrink_to_fit(&mut self.inner) };
     }

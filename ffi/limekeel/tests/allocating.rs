@@ -168,22 +168,47 @@ fn send_all(connection: &mut Connection, bytes: u64) {
 fn as_many_copies_as_before_take_memory_once() {
     let mut connection = Connection::open(Marks::default(), Estimate::default()).expect("there is memory");
     let kept = LIVE.get();
-    let mut turn = |count: u64| {
+    // how often so many of this length ask for memory, what is held then, and what is kept of it
+    let mut turn = |count: u64, length: usize| {
         let asked = asked_by(|| {
             for byte in 0..count {
-                let _ = connection.write(&[byte as u8; 64]).expect("it is accepted");
+                let _ = connection.write(&vec![byte as u8; length]).expect("it is accepted");
             }
         });
         let held = LIVE.get() - kept;
-        send_all(&mut connection, count * 64);
-        assert_eq!(LIVE.get(), kept, "what it keeps");
-        (asked, held)
+        send_all(&mut connection, count * length as u64);
+        (asked - count, held, LIVE.get() - kept)
     };
-    assert!(turn(32).0 > 1);
-    assert_eq!([turn(32).0, turn(36).0], [1, 1]);
-    // one alone takes as much once, and then no more than it needs
-    assert_eq!([turn(1).0, turn(1).0], [1, 1]);
-    assert!(turn(1).1 < 128);
+    let first = turn(32, 64);
+    assert!(first.0 > 1 && first.2 == 0);
+    for again in [turn(32, 64), turn(36, 64)] {
+        assert_eq!((again.0, again.2), (1, 0));
+    }
+    // one alone takes as much once
+    let alone = turn(1, 64);
+    assert_eq!((alone.0, alone.2), (1, 0));
+    // and then no more than it needs, which it keeps
+    let alone = turn(1, 64);
+    assert_eq!(alone.0, 1);
+    assert!((64..=128).contains(&alone.2));
+    for _ in 0..1000 {
+        assert_eq!(turn(1, 64), (0, alone.2, alone.2));
+    }
+    // those are no burst: a longer one takes what it needs
+    let longer = turn(1, 200);
+    assert_eq!((longer.0, longer.2), (1, 0));
+    assert!(longer.1 < 300);
+}
+
+#[test]
+fn a_chunk_that_was_kept_is_given_back() {
+    let mut connection = Connection::open(Marks::default(), Estimate::default()).expect("there is memory");
+    let opened = LIVE.get();
+    let _ = connection.write(&[1; 100]).expect("it is accepted");
+    send_all(&mut connection, 100);
+    assert!(LIVE.get() > opened);
+    connection.shrink_to_fit();
+    assert_eq!(LIVE.get(), opened);
 }
 
 #[test]
