@@ -1,6 +1,6 @@
 //! The writes.
 
-ghost use Rattle.std.specs.Prelude.{◌≡◌};
+ghost use Rattle.std.specs.Prelude.{◌≡◌, IfSome, Some};
 ghost use Rattle.ob_types.specs.declared.command.Command.TheVariants.{Write};
 ghost use Rattle.ob_types.specs.declared.message.Message.TheVariants.{Block as AsBlock, Region as AsRegion, Other as AsOther};
 ghost use Rattle.ob_connection.specs.Obeying.{Obeys, written_reply};
@@ -31,6 +31,37 @@ pub extern "C" fn limekeel_write_bytes(handle: &mut Handle, bytes: &[u8]) -> Wri
 /// owners than can be counted.
 #[unsafe(no_mangle)]
 pub extern "C" fn limekeel_write_block(handle: &mut Handle, block: &mut Block) -> Written
+    ensures writes { WritesBlock handle.old.value block.old.value result handle.new.value }
+    ensures block { block.new.value ≡ block.old.value }
+{
+    // Shared before anything is asked: what the handle holds would be read once more behind that.
+    if let Some(shared) = shared(block)
+        && takes_at_once(handle, shared.len())
+    {
+        return Written::of(handle.command(|connection| write(connection, Message::Block(shared))));
+    }
+    let Written { status, change, id } = share_at_length(handle, block);
+    Written { status, change, id }
+}
+
+/// The bytes of a block, which both share, unless it holds none or has more owners than can be counted.
+#[inline(always)]
+fn shared(block: &mut Block) -> Option<Bytes>
+    ensures shares { IfSome result (λ shared. block.old.value ≡ Some shared) }
+    ensures block { block.new.value ≡ block.old.value }
+{
+    if !block.is_open() {
+        return None;
+    }
+    let bytes: &Bytes = block.reach();
+    bytes.clone().ok()
+}
+
+/// The same of a connection that grows by it or refuses it, or if one of the two holds nothing.
+// As `lend_at_length`.
+#[cold]
+#[inline(never)]
+fn share_at_length(handle: &mut Handle, block: &mut Block) -> Written
     ensures writes { WritesBlock handle.old.value block.old.value result handle.new.value }
     ensures block { block.new.value ≡ block.old.value }
 {
