@@ -27,12 +27,14 @@ static size_t at_most_large(size_t size)
 }
 
 /* A message alone takes what it asks for, and more that wait share. After some that waited together the first takes what they did
- * and an eighth, since as many are likely to come again, and one may be shorter than it asks for. */
+ * and an eighth, since as many are likely to come again, and one may be shorter than it asks for; but one that is more than half of
+ * that is alone. */
 static size_t next_size(const struct limekeel_rooms *rooms, size_t most)
 {
     if (!rooms->last) {
-        size_t again = at_most_large((size_t)rooms->end + (size_t)rooms->end / 8);
-        return most > again ? most : again;
+        size_t burst = (size_t)rooms->end;
+        size_t again = at_most_large(burst + burst / 8);
+        return most > burst / 2 || most > again ? most : again;
     }
     size_t twice = 2 * rooms->last->size;
     size_t shared = twice < SMALL ? SMALL : at_most_large(twice);

@@ -132,6 +132,24 @@ static void come_one_by_one(size_t first)
     }
 }
 
+/* Four, each gone before the next is made, that fill what they asked for: these are no burst. Returns the next promise. */
+static size_t come_full(size_t first)
+{
+    enum { LONG = 1008 };
+    for (size_t message = first; message < first + 4; message++) {
+        uint8_t *room = limekeel_reserve(&rooms, LONG);
+        expect("there is room", room != NULL);
+        if (message > first)
+            expect("and no more", limekeel_left(&rooms) == LONG);
+        memset(room, 'x', LONG);
+        expect("it is written", limekeel_write_reserved(&rooms, &connection, LONG).id == message);
+        expect("flush", limekeel_flush(&connection).count == 1);
+        limekeel_let_go(&rooms, limekeel_take_sent(&connection, LONG).to);
+        expect("it is gone", rooms.first == NULL);
+    }
+    return first + 4;
+}
+
 /* Several answers as one message, up to the last byte that there is room for. Returns the next promise. */
 static size_t one_of_several(size_t first)
 {
@@ -285,7 +303,7 @@ int main(void)
     /* in what one asks for and in chunks of 1, 2, 4 and 8 KiB; and in one for as many again */
     lie_together(3 * MANY, 5);
     lie_together(4 * MANY, 1);
-    refusals(a_refused_write(one_of_several(5 * MANY)));
+    refusals(a_refused_write(one_of_several(come_full(5 * MANY))));
     of_a_managed_one();
     of_one_within_a_budget();
     expect("nothing is live", live == 0);

@@ -142,9 +142,10 @@ impl Lent {
         let mut next = Vec::new();
         let refused = |_| Refusal::NoMemory;
         if self.chunk.is_empty() {
-            // a message alone takes what it asks for
-            let again = (self.burst + self.burst / 8) as usize;
-            next.try_reserve_exact(most.max(again.min(LARGE))).map_err(refused)?;
+            // a message alone takes what it asks for, and one that is more than half of what waited together before is alone
+            let burst = self.burst as usize;
+            let again = if most > burst / 2 { most } else { (burst + burst / 8).min(LARGE) };
+            next.try_reserve_exact(most.max(again)).map_err(refused)?;
             self.burst = 0;
             self.chunk = next;
             return Ok(());

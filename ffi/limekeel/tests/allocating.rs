@@ -198,6 +198,10 @@ fn as_many_copies_as_before_take_memory_once() {
     let longer = turn(1, 200);
     assert_eq!((longer.0, longer.2), (1, 0));
     assert!(longer.1 < 300);
+    // nor is one that fills what it asked for
+    for _ in 0..3 {
+        assert_eq!(turn(1, 1000), (1, 1000, 0));
+    }
 }
 
 #[test]
