@@ -284,7 +284,7 @@ impl BudgetedConnection {
         self.waiters.written(told)
     }
 
-    /// Writes the bytes of `owner` where they lie, as [`crate::Connection::write_owned`]: nothing is copied.
+    /// Writes the bytes of `owner` where they lie, as [`crate::Connection::write_owned`].
     pub fn write_owned<T: AsRef<[u8]> + Send + 'static>(&mut self, owner: T) -> Pressed<Result<Written, Refused<T>>> {
         let Owned { answer, pressure } = self.handle.lends().write_owned(owner);
         let answer = answer.map(Written::accepted).map_err(|(refusal, owner)| Refused { refusal, owner });

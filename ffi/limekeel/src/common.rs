@@ -1,7 +1,8 @@
 use crate::calm::Waiters;
 use crate::handles::{Sender, Sharer};
 use crate::lends::WrittenWithin;
-use crate::lent::{Kept, Lent, Owner};
+use crate::lent::Lent;
+use crate::owners::{Boxed, Kept};
 use crate::promises::{Node, Promises};
 use crate::replies::{Refusal, Taken, Written, done};
 use crate::waits::{Bell, Line, lock, look_for};
@@ -192,11 +193,12 @@ impl Common {
         sharer: &Sharer,
         owner: T,
     ) -> Result<Written, (Refusal, T)> {
-        let owner = Owner::new(owner).map_err(|owner| (Refusal::NoMemory, owner))?;
+        let owner = Boxed::new(owner).map_err(|owner| (Refusal::NoMemory, owner))?;
         // what a user's owner does here, and when it is dropped, is not done under the mutex
-        let bytes = owner.bytes();
+        let bytes = owner.as_ref();
         let mut books = lock(&self.books);
         if let Err(refusal) = books.lent.make_room() {
+            drop(books);
             return Err((refusal, owner.into_inner()));
         }
         // SAFETY: the owner is kept under the promise of the message, before anyone can tell that as gone: who does takes the
@@ -204,7 +206,7 @@ impl Common {
         let told = self.write(|| unsafe { sharer.write_lent(bytes) }, || unsafe { sharer.write_lent_within(bytes) });
         match done(told.status) {
             Ok(()) => {
-                books.lent.keep(told.id, owner.of_any_type());
+                books.lent.keep(owner, told.id);
                 Ok(Written::accepted(told))
             }
             Err(refusal) => {

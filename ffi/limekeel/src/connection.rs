@@ -88,12 +88,13 @@ impl Connection {
         Written::of(self.handle.write_static(bytes))
     }
 
-    /// Writes the bytes of `owner` where they lie, as of a `Vec<u8>` or of `Bytes` of the crate `bytes`: nothing is copied.
+    /// Writes the bytes of `owner` where they lie, as of a `Vec<u8>` or of `Bytes` of the crate `bytes`: nothing is copied, but of a
+    /// `Vec` at most 256 bytes, which costs less.
     ///
     /// The connection keeps the owner while the message waits. It drops it in the call that tells it as gone ([`Taken`] or
     /// [`Removed`], also of a message that was cancelled), before that returns, or when it is dropped itself. `as_ref` is
-    /// called once. An owner that is no `Vec` moves into a small allocation of its own. If memory or the write is refused, it
-    /// comes back; [`Refusal::NoMemory`] may come before another refusal.
+    /// called once. An owner of more than four words moves into a small allocation of its own. If memory or the write is refused,
+    /// it comes back; [`Refusal::NoMemory`] may come before another refusal.
     ///
     /// ```
     /// use limekeel::{Connection, Estimate, Marks};

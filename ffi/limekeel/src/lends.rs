@@ -1,9 +1,10 @@
 //! The `unsafe` of what is lent to a connection of each kind. Each call here is as safe as its signature, for the reasons in `raw.rs`.
 
 use limekeel_sys as sys;
-use std::any::Any;
+use std::any::TypeId;
 
-use crate::lent::{Kept, Lent, Owner};
+use crate::lent::Lent;
+use crate::owners::{Boxed, fits};
 use crate::replies::{Refusal, done};
 
 /// What a write came to, and the number of the change of pressure: none, if no budget covers the connection.
@@ -52,6 +53,13 @@ impl Archived<'_> {
 /// The longest message of which a copy shares a chunk, in bytes: as in the archive.
 const LONGEST: usize = 2048;
 
+/// The longest list that is copied and not kept, in bytes: that costs less. Nobody sees when a list is dropped.
+const SHORT: usize = 256;
+
+fn is_list<T: 'static>() -> bool {
+    TypeId::of::<T>() == TypeId::of::<Vec<u8>>()
+}
+
 /// A connection, and what its messages are lent. Whoever has both lets go of what is lent as the archive tells a message as gone,
 /// and drops it after the connection.
 #[derive(Debug)]
@@ -70,17 +78,27 @@ impl<T> Owned<T> {
     fn out_of_memory(owner: T) -> Owned<T> {
         Owned { answer: Err((Refusal::NoMemory, owner)), pressure: sys::PRESSURE_UNCHANGED }
     }
+
+    /// What a write of its copy came to.
+    fn of(told: WrittenWithin, owner: T) -> Owned<T> {
+        let answer = done(told.written.status).map(|()| told.written);
+        Owned { answer: answer.map_err(|refusal| (refusal, owner)), pressure: told.pressure }
+    }
+
+    fn map<U>(self, of: impl FnOnce(T) -> U) -> Owned<U> {
+        Owned { answer: self.answer.map_err(|(refusal, owner)| (refusal, of(owner))), pressure: self.pressure }
+    }
 }
 
 impl Lends<'_> {
     /// Writes a copy of few bytes, made where messages are made in place: so it needs no count of owners, which the archive would
     /// keep for it. If there is no memory for that, or they are many, it does nothing, and the archive is to be asked.
     #[inline(always)]
-    pub(crate) fn write_copy(self, bytes: &[u8]) -> Option<WrittenWithin> {
+    pub(crate) fn write_copy(&mut self, bytes: &[u8]) -> Option<WrittenWithin> {
         if bytes.len() > LONGEST {
             return None;
         }
-        let Lends { mut archived, lent } = self;
+        let Lends { archived, lent } = self;
         lent.reserve(bytes.len()).ok()?;
         let start = lent.made();
         lent.add(bytes);
@@ -97,52 +115,42 @@ impl Lends<'_> {
         Some(told)
     }
 
-    /// Writes the bytes of an owner, and keeps it until the message is gone.
+    /// Writes the bytes of an owner, and keeps it until the message is gone, but for a short list.
     #[inline]
     pub(crate) fn write_owned<T: AsRef<[u8]> + Send + 'static>(mut self, owner: T) -> Owned<T> {
+        if is_list::<T>()
+            && owner.as_ref().len() <= SHORT
+            && let Some(told) = self.write_copy(owner.as_ref())
+        {
+            return Owned::of(told, owner);
+        }
         if self.lent.make_room().is_err() {
             return Owned::out_of_memory(owner);
         }
-        let mut owner = Some(owner);
-        // most often it is a list, which needs no memory besides
-        if let Some(list) = (&mut owner as &mut dyn Any).downcast_mut::<Option<Vec<u8>>>() {
-            let Some(owned) = list.take() else { unreachable!("it was there") };
-            let Owned { answer, pressure } = self.write_list(owned);
-            let answer = answer.map_err(|(refusal, owned)| {
-                *list = Some(owned);
-                refusal
-            });
-            return Owned { answer: answer.map_err(|refusal| (refusal, owner.expect("it was put back"))), pressure };
+        if fits::<T>() {
+            return self.write_placed(owner);
         }
-        let owner = match Owner::new(owner.expect("it is there")) {
-            Ok(owner) => owner,
-            Err(owner) => return Owned::out_of_memory(owner),
-        };
-        let bytes = owner.bytes();
-        // SAFETY: the pointer and the length are those of one slice. Its owner is kept under the promise of the message; what is
-        // kept is let go if the archive told the message as gone, and behind the archive at the end.
-        let told = unsafe { self.archived.write(bytes.as_ptr(), bytes.len()) };
-        let answer = match done(told.written.status) {
-            Ok(()) => {
-                self.lent.keep(told.written.id, owner.of_any_type());
-                Ok(told.written)
-            }
-            Err(refusal) => Err((refusal, owner.into_inner())),
-        };
-        Owned { answer, pressure: told.pressure }
+        match Boxed::new(owner) {
+            Ok(boxed) => self.write_placed(boxed).map(Boxed::into_inner),
+            Err(owner) => Owned::out_of_memory(owner),
+        }
     }
 
-    /// The same of a list, for which there is room among what is kept.
+    /// The same of one that fits among those that are kept, where there is room for it.
     #[inline]
-    fn write_list(&mut self, list: Vec<u8>) -> Owned<Vec<u8>> {
-        // SAFETY: as of any owner. The bytes of a list stay where they are if it is moved.
-        let told = unsafe { self.archived.write(list.as_ptr(), list.len()) };
+    fn write_placed<T: AsRef<[u8]> + Send + 'static>(self, owner: T) -> Owned<T> {
+        let Lends { mut archived, lent } = self;
+        let placed = lent.place(owner);
+        let bytes = placed.bytes();
+        // SAFETY: the pointer and the length are those of one slice. Its owner is kept under the promise of the message; what is
+        // kept is let go if the archive told the message as gone, and behind the archive at the end.
+        let told = unsafe { archived.write(bytes.as_ptr(), bytes.len()) };
         let answer = match done(told.written.status) {
             Ok(()) => {
-                self.lent.keep(told.written.id, Kept::List(list));
+                placed.keep(told.written.id);
                 Ok(told.written)
             }
-            Err(refusal) => Err((refusal, list)),
+            Err(refusal) => Err((refusal, placed.into_inner())),
         };
         Owned { answer, pressure: told.pressure }
     }

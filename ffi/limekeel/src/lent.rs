@@ -4,90 +4,23 @@
 //! neither moved nor dropped, nor are its bytes changed, before [`Lent::let_go_below`] or [`Lent::let_go_if_below`] is called with
 //! an end above that promise.
 
+use crate::owners::{Kept, Owners, Placed};
 use crate::replies::Refusal;
 use std::arch::x86_64::{_MM_HINT_T0, _mm_prefetch};
-use std::collections::VecDeque;
 use std::fmt::{self, Debug, Formatter};
 use std::mem::{replace, take};
-use std::ptr::NonNull;
 
-/// For how many owners more there is room once there was none, and for how many it is kept if none is left.
-const FEW: usize = 8;
-/// For how many owners there is room at once at most, if as many came before.
-const MANY: u32 = 256;
 /// How large a chunk is at most, in bytes, that is kept when all in it are gone.
 const KEPT: usize = 128;
 /// How large the second chunk is at least, and each at most that was not asked for larger, in bytes: as in the archive.
 const SMALL: usize = 1024;
 const LARGE: usize = 16384;
 
-/// The owner of bytes, in memory of its own: it stays where it is, and nothing but its bytes is reached, until it is dropped.
-pub(crate) struct Owner<T: ?Sized>(NonNull<T>);
-
-/// What is kept: the list itself, whose bytes stay where they are if it is moved, or an owner of any type.
-#[allow(dead_code, reason = "it is there to be dropped")]
-pub(crate) enum Kept {
-    List(Vec<u8>),
-    Owner(Owner<dyn Send>),
-}
-
-// SAFETY: what is behind the pointer is this value's own, and `Send`.
-unsafe impl<T: Send + ?Sized> Send for Owner<T> {}
-
-impl<T: Send + 'static> Owner<[T; 1]> {
-    /// An owner, or what was to be one if memory is refused.
-    pub(crate) fn new(owner: T) -> Result<Owner<[T; 1]>, T> {
-        let mut room = Vec::new();
-        // a `Box` of its own aborts if memory is refused
-        if room.try_reserve_exact(1).is_err() {
-            return Err(owner);
-        }
-        room.push(owner);
-        let Ok(room) = <Box<[T; 1]>>::try_from(room) else { unreachable!("it has one element") };
-        Ok(Owner(NonNull::from(Box::leak(room))))
-    }
-
-    /// Its bytes, which lie there as long as this owner is not dropped.
-    pub(crate) fn bytes(&self) -> &[u8]
-    where
-        T: AsRef<[u8]>,
-    {
-        // SAFETY: the pointer is that of a box of this value's own, and nothing else reaches what is in it.
-        let [owner] = unsafe { self.0.as_ref() };
-        owner.as_ref()
-    }
-
-    /// What it was made of.
-    pub(crate) fn into_inner(self) -> T {
-        let at = self.0;
-        std::mem::forget(self);
-        // SAFETY: the pointer is that of a box, which nobody drops: the value was forgotten.
-        let [owner] = *unsafe { Box::from_raw(at.as_ptr()) };
-        owner
-    }
-
-    pub(crate) fn of_any_type(self) -> Kept {
-        let at = self.0;
-        std::mem::forget(self);
-        Kept::Owner(Owner(at))
-    }
-}
-
-impl<T: ?Sized> Drop for Owner<T> {
-    fn drop(&mut self) {
-        // SAFETY: the pointer is that of a box of this value's own.
-        drop(unsafe { Box::from_raw(self.0.as_ptr()) });
-    }
-}
-
 /// What messages that wait are lent.
 #[derive(Default)]
 pub(crate) struct Lent {
-    /// Each with the last promise that has a part in it. A chunk may stand behind owners of later promises.
-    owners: VecDeque<(u64, Kept)>,
-    /// How many of them came since there was none; and how many came before that, for which it makes room again.
-    came: u32,
-    came_before: u32,
+    /// A chunk may stand behind owners of later promises.
+    owners: Owners,
     /// What messages are made in, one behind the other. It is longer while one is made, and never grows past its capacity.
     chunk: Vec<u8>,
     /// The promise of the last message in it.
@@ -101,7 +34,7 @@ pub(crate) struct Lent {
 
 impl Debug for Lent {
     fn fmt(&self, formatter: &mut Formatter<'_>) -> fmt::Result {
-        formatter.debug_struct("Lent").field("owners", &self.owners.len()).field("made", &self.chunk.len()).finish()
+        formatter.debug_struct("Lent").field("owners", &self.owners.count()).field("made", &self.chunk.len()).finish()
     }
 }
 
@@ -114,20 +47,19 @@ impl Lent {
     /// Memory to keep one owner more.
     #[inline]
     pub(crate) fn make_room(&mut self) -> Result<(), Refusal> {
-        if self.owners.len() < self.owners.capacity() { Ok(()) } else { self.grow() }
+        self.owners.make_room()
     }
 
-    #[cold]
-    fn grow(&mut self) -> Result<(), Refusal> {
-        let again = take(&mut self.came_before) as usize;
-        self.owners.try_reserve(FEW.max(again)).map_err(|_| Refusal::NoMemory)
+    /// Puts an owner, for which `make_room` made room, where it stays if it is kept.
+    #[inline]
+    pub(crate) fn place<T: Send + 'static>(&mut self, owner: T) -> Placed<'_, T> {
+        self.owners.place(owner)
     }
 
     /// Keeps an owner, for which `make_room` made room, under the last promise that has a part in it.
     #[inline]
-    pub(crate) fn keep(&mut self, last: u64, owner: Kept) {
-        self.came = self.came.saturating_add(1);
-        self.owners.push_back((last, owner));
+    pub(crate) fn keep<T: Send + 'static>(&mut self, owner: T, last: u64) {
+        self.owners.place(owner).keep(last);
     }
 
     /// Memory in which `most` bytes are made, behind those that are there.
@@ -157,7 +89,7 @@ impl Lent {
         self.had_full = true;
         let full = replace(&mut self.chunk, next);
         self.add_to_burst(full.len());
-        self.keep(self.last, Kept::List(full));
+        self.keep(full, self.last);
         Ok(())
     }
 
@@ -225,11 +157,11 @@ impl Lent {
             // a drop of the owner's that panics leaves the others for the next call
             drop(owner);
         }
-        // who lends owners one by one keeps room for some, and who copies or makes messages none
-        if self.had_full || self.owners.capacity() > FEW {
+        // who lends owners one by one keeps room for few, and who copies or makes messages none
+        if self.had_full {
             self.give_back();
-        } else if self.owners.is_empty() {
-            self.came = 0;
+        } else {
+            self.owners.keep_few();
         }
         if self.last < end {
             self.let_go_of_chunk();
@@ -250,7 +182,7 @@ impl Lent {
     /// The same, if there is any: small enough to be a piece of its caller.
     #[inline]
     pub(crate) fn let_go_if_below(&mut self, end: u64) {
-        let has_below = self.last < end || self.owners.front().is_some_and(|owner| owner.0 < end);
+        let has_below = self.last < end || self.owners.have_below(end);
         if has_below && !self.is_empty() {
             self.let_go_below(end);
         }
@@ -259,7 +191,7 @@ impl Lent {
     /// Hands out the first owner in which no message from this promise on has a part, to be dropped.
     #[inline]
     pub(crate) fn next_below(&mut self, end: u64) -> Option<Kept> {
-        if self.owners.front()?.0 < end { self.owners.pop_front().map(|(_, owner)| owner) } else { None }
+        self.owners.pop_below(end)
     }
 
     /// Keeps no memory for what is not there.
@@ -273,10 +205,8 @@ impl Lent {
     /// Keeps no room for owners if there are none.
     pub(crate) fn give_back(&mut self) {
         if self.owners.is_empty() {
-            self.owners = VecDeque::new();
+            self.owners.give_back();
             self.had_full = false;
-            self.came_before = self.came.min(MANY);
-            self.came = 0;
         }
     }
 }

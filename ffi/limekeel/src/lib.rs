@@ -108,6 +108,8 @@ mod lent;
 #[allow(unsafe_code)]
 mod managed_raw;
 #[allow(unsafe_code)]
+mod owners;
+#[allow(unsafe_code)]
 mod raw;
 
 pub use block::Block;

@@ -1,5 +1,5 @@
-//! The `unsafe` of this crate, but that of `lends.rs`, `lent.rs`, `handles.rs`, `managed_raw.rs`, `budget_raw.rs` and `common.rs`.
-//! Each call here is as safe as its signature.
+//! The `unsafe` of this crate, but that of `lends.rs`, `lent.rs`, `owners.rs`, `handles.rs`, `managed_raw.rs`, `budget_raw.rs` and
+//! `common.rs`. Each call here is as safe as its signature.
 //!
 //! What the archive asks of a caller, and why it is so here:
 //!
@@ -9,7 +9,7 @@
 //!   neither the handle nor what is behind it, and so the archive takes it as const.
 //! - Slices are not null: those of Rust never are.
 //! - Memory that is lent stays as it is until the archive told the message as gone: a handle keeps its owner, and lets it go
-//!   as it is told (`lends.rs`, `lent.rs`).
+//!   as it is told (`lends.rs`, `lent.rs`, `owners.rs`).
 //! - What a `Piece` points to is read while the connection is as it was: a `Pieces` borrows it. It may be read in one thread
 //!   while another looks at the connection, since a look writes nothing.
 

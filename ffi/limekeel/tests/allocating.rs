@@ -219,19 +219,19 @@ fn a_chunk_that_was_kept_is_given_back() {
 fn as_many_owners_as_before_take_memory_once() {
     let mut connection = Connection::open(Marks::default(), Estimate::default()).expect("there is memory");
     let mut turn = |count: usize| {
-        let lists = vec![vec![1; 100]; count];
+        let lists = vec![vec![1; 300]; count];
         let asked = asked_by(|| {
             for list in lists {
                 let _ = connection.write_owned(list).expect("it is accepted");
             }
         });
-        send_all(&mut connection, count as u64 * 100);
+        send_all(&mut connection, count as u64 * 300);
         asked
     };
     assert!(turn(100) > 1);
     assert_eq!([turn(100), turn(1), turn(1)], [1, 1, 1]);
     // room for few stays
-    assert_eq!([turn(1), turn(8)], [0, 0]);
+    assert_eq!([turn(1), turn(2)], [0, 0]);
 }
 
 #[test]
@@ -248,7 +248,7 @@ fn a_copy_is_refused_as_the_archive_refuses_it() {
 fn a_write_that_is_refused_memory_gives_its_owner_back() {
     let mut connection = Connection::open(Marks::default(), Estimate::default()).expect("there is memory");
     let mut owner = [3; 100];
-    // room to keep it under its promise, and then memory to keep it in
+    // room for a pointer to it, and then memory to keep it in
     for id in 0..2 {
         let (answer, asked) = refused(|| connection.write_owned(owner));
         let answer = answer.expect_err("it is refused");
@@ -259,13 +259,20 @@ fn a_write_that_is_refused_memory_gives_its_owner_back() {
         let _ = connection.take_sent(0).expect("it waits");
     }
     assert_eq!((owner, connection.write_owned(owner).expect("it is accepted").id), ([3; 100], 2));
-    // for a list there is room already
-    let list = vec![4; 100];
+    // a list is kept where there is room already
+    let list = vec![4; 300];
     let (answer, asked) = refused(|| connection.write_owned(list));
     assert_eq!((answer.expect("it is accepted").id, asked), (3, 0));
+    // and so is a short one, for whose copy there is none
+    send_all(&mut connection, 400);
+    let list = vec![4; 256];
+    let (answer, asked) = refused(|| connection.write_owned(list));
+    assert_eq!((answer.expect("it is accepted").id, asked), (4, 1));
     let _ = connection.close(1).expect("nothing is flushed");
-    let answer = connection.write_owned(vec![5; 100]).expect_err("it is closed");
-    assert_eq!((answer.refusal, answer.owner), (Refusal::Closed, vec![5; 100]));
+    for length in [256, 257] {
+        let answer = connection.write_owned(vec![5; length]).expect_err("it is closed");
+        assert_eq!((answer.refusal, answer.owner), (Refusal::Closed, vec![5; length]));
+    }
 }
 
 #[test]
@@ -322,10 +329,13 @@ fn what_was_lent_leaves_little() {
     while connection.send_to(&mut socket).expect("it takes").more {}
     drop(socket);
     assert_eq!(live(), before, "nothing is left of a thousand");
-    let _ = connection.write_owned(vec![1; 1000]).expect("it is accepted");
-    let _ = connection.flush().expect("it is open");
-    let _ = connection.take_sent(1000).expect("it waits");
-    assert!(live() - before <= 8 * 32, "{}", live() - before);
+    // as many may come again, and if not there is room for two, of 48 bytes each
+    for left in [0, 2 * 48] {
+        let _ = connection.write_owned(vec![1; 1000]).expect("it is accepted");
+        let _ = connection.flush().expect("it is open");
+        let _ = connection.take_sent(1000).expect("it waits");
+        assert_eq!(live() - before, left);
+    }
     connection.shrink_to_fit();
     assert_eq!(live(), before);
 }

@@ -3,6 +3,7 @@
 use limekeel::{Block, Connection, Ending, Estimate, Marks, Outcome, Refusal};
 use std::collections::VecDeque;
 use std::io::{self, ErrorKind, IoSlice, Write};
+use std::panic::{AssertUnwindSafe, catch_unwind};
 use std::sync::{Arc, Mutex};
 use std::thread;
 
@@ -10,24 +11,34 @@ use std::thread;
 type Dropped = Arc<Mutex<Vec<u64>>>;
 
 /// Bytes that tell when they are dropped. They lie in the owner itself, so that they would move with it.
-struct Watched {
-    bytes: [u8; 24],
+struct Watched<const LENGTH: usize> {
+    bytes: [u8; LENGTH],
     name: u64,
     dropped: Dropped,
 }
 
-impl AsRef<[u8]> for Watched {
+impl<const LENGTH: usize> Watched<LENGTH> {
+    fn new(name: u64, dropped: &Dropped) -> Watched<LENGTH> {
+        Watched { bytes: [name as u8; LENGTH], name, dropped: dropped.clone() }
+    }
+}
+
+impl<const LENGTH: usize> AsRef<[u8]> for Watched<LENGTH> {
     fn as_ref(&self) -> &[u8] {
         &self.bytes
     }
 }
 
-impl Drop for Watched {
+impl<const LENGTH: usize> Drop for Watched<LENGTH> {
     fn drop(&mut self) {
-        self.bytes = [0xee; 24];
+        self.bytes = [0xee; LENGTH];
         self.dropped.lock().expect("nobody panicked").push(self.name);
     }
 }
+
+/// How many bytes an owner has that is kept in place, and how many one that has memory of its own.
+const SMALL: usize = 16;
+const LARGE: usize = 24;
 
 fn connection() -> Connection {
     Connection::open(Marks::default(), Estimate::default()).expect("there is memory")
@@ -35,7 +46,7 @@ fn connection() -> Connection {
 
 /// Writes the bytes of a watched owner that is named after the promise.
 fn write_watched(connection: &mut Connection, name: u64, dropped: &Dropped) {
-    let owner = Watched { bytes: [name as u8; 24], name, dropped: dropped.clone() };
+    let owner = Watched::<LARGE>::new(name, dropped);
     assert_eq!(connection.write_owned(owner).expect("it is accepted").id, name);
 }
 
@@ -99,9 +110,12 @@ fn an_end_lets_all_go() {
 fn a_refused_owner_comes_back() {
     let (mut connection, dropped) = (connection(), Dropped::default());
     let _ = connection.close(1).expect("nothing is flushed");
-    let owner = Watched { bytes: [9; 24], name: 9, dropped: dropped.clone() };
-    let refused = connection.write_owned(owner).expect_err("it is closed");
-    assert_eq!((refused.refusal, refused.owner.bytes, names(&dropped)), (Refusal::Closed, [9; 24], vec![]));
+    let refused = connection.write_owned(Watched::<SMALL>::new(8, &dropped)).expect_err("it is closed");
+    assert_eq!((refused.refusal, refused.owner.bytes, names(&dropped)), (Refusal::Closed, [8; SMALL], vec![]));
+    drop(refused);
+    assert_eq!(names(&dropped), [8]);
+    let refused = connection.write_owned(Watched::<LARGE>::new(9, &dropped)).expect_err("it is closed");
+    assert_eq!((refused.refusal, refused.owner.bytes, names(&dropped)), (Refusal::Closed, [9; LARGE], vec![]));
     assert_eq!(refused.to_string(), "the connection is closed");
     assert!(format!("{refused:?}").contains("Closed"));
     assert_eq!(Refusal::from(refused), Refusal::Closed);
@@ -131,6 +145,99 @@ fn nothing_is_copied() {
     assert_eq!(pieces[0].as_ptr(), FOREVER.as_ptr());
     assert!(pieces[1..41].iter().map(|piece| piece.as_ptr()).eq(at));
     assert_eq!((&pieces[41][..], &pieces[42][..]), (&b"text"[..], &[1, 2][..]));
+}
+
+/// Bytes that want to lie at a multiple of 32.
+#[repr(align(32))]
+struct Aligned([u8; 32]);
+
+impl AsRef<[u8]> for Aligned {
+    fn as_ref(&self) -> &[u8] {
+        assert_eq!(self.0.as_ptr().align_offset(32), 0);
+        &self.0
+    }
+}
+
+#[test]
+fn small_owners_stay_where_they_are() {
+    let mut connection = connection();
+    for number in 0..500u16 {
+        let _ = connection.write_owned([number as u8; 7]).expect("it is accepted");
+        let _ = connection.write_owned(Aligned([number as u8; 32])).expect("it is accepted");
+    }
+    let _ = connection.flush().expect("it is open");
+    let lie_at: Vec<*const u8> = connection.pieces::<64>(u32::MAX).iter().map(|piece| piece.as_ptr()).collect();
+    // the first goes, and more than there was room for come
+    let _ = connection.take_sent(7).expect("it waits");
+    for _ in 0..5000 {
+        let _ = connection.write_owned(*b"more").expect("it is accepted");
+    }
+    let pieces = connection.pieces::<63>(u32::MAX);
+    assert!(pieces.iter().map(|piece| piece.as_ptr()).eq(lie_at[1..].iter().copied()));
+    let mut socket = Vec::new();
+    while connection.send_to(&mut socket).expect("it takes").more {}
+    let mut wanted: Vec<u8> = (0..500u16).flat_map(|number| [number as u8; 39]).collect();
+    assert_eq!(socket, wanted.split_off(7));
+}
+
+/// An owner whose bytes cannot be had.
+struct Broken {
+    _watched: Watched<8>,
+}
+
+impl AsRef<[u8]> for Broken {
+    fn as_ref(&self) -> &[u8] {
+        panic!("it has none");
+    }
+}
+
+#[test]
+fn an_owner_that_panics_is_dropped() {
+    let (mut connection, dropped) = (connection(), Dropped::default());
+    write_watched(&mut connection, 0, &dropped);
+    let write = || connection.write_owned(Broken { _watched: Watched::new(7, &dropped) });
+    assert!(catch_unwind(AssertUnwindSafe(write)).is_err());
+    assert_eq!(names(&dropped), [7]);
+    write_watched(&mut connection, 1, &dropped);
+    let _ = connection.flush().expect("it is open");
+    let _ = connection.take_sent(2 * LARGE as u64).expect("they wait");
+    assert_eq!(names(&dropped), [0, 1]);
+}
+
+/// An owner that panics as it is dropped.
+struct Loud(Watched<8>);
+
+impl AsRef<[u8]> for Loud {
+    fn as_ref(&self) -> &[u8] {
+        self.0.as_ref()
+    }
+}
+
+impl Drop for Loud {
+    fn drop(&mut self) {
+        panic!("it is dropped");
+    }
+}
+
+#[test]
+fn a_panic_as_an_owner_is_dropped_leaves_the_others() {
+    let dropped = Dropped::default();
+    let mut sends = connection();
+    let mut ends = connection();
+    for connection in [&mut sends, &mut ends] {
+        let _ = connection.write_owned(Loud(Watched::new(0, &dropped))).expect("it is accepted");
+        for name in 1..40 {
+            write_watched(connection, name, &dropped);
+        }
+        let _ = connection.flush().expect("it is open");
+    }
+    assert!(catch_unwind(AssertUnwindSafe(|| sends.take_sent(8 + LARGE as u64))).is_err());
+    assert_eq!(names(&dropped), [0]);
+    // they are gone, and dropped by the next call
+    let _ = sends.take_sent(LARGE as u64).expect("they wait");
+    assert_eq!(names(&dropped), [1, 2]);
+    assert!(catch_unwind(AssertUnwindSafe(|| drop(ends))).is_err());
+    assert_eq!(names(&dropped), (0..40).collect::<Vec<_>>());
 }
 
 #[test]
@@ -318,7 +425,7 @@ fn by_chance(seed: u64) {
                 let longest = if dice.below(20) == 0 { 6000 } else { 60 };
                 let length = dice.below(longest) as usize;
                 let bytes: Vec<u8> = (0..length).map(|at| (next * 31 + at as u64) as u8).collect();
-                let kind = dice.below(5);
+                let kind = dice.below(6);
                 let written = match kind {
                     0 => connection.write(&bytes),
                     1 => connection.write_block(&Block::from(&bytes[..])),
@@ -329,15 +436,17 @@ fn by_chance(seed: u64) {
                         room.write_all(&bytes).expect("it has room");
                         room.write_message()
                     }
-                    _ => {
-                        let owner = Watched { bytes: [next as u8; 24], name: next, dropped: dropped.clone() };
-                        connection.write_owned(owner).map_err(Refusal::from)
-                    }
+                    4 => connection.write_owned(Watched::<SMALL>::new(next, &dropped)).map_err(Refusal::from),
+                    _ => connection.write_owned(Watched::<LARGE>::new(next, &dropped)).map_err(Refusal::from),
                 };
-                let bytes = if kind == 4 { vec![next as u8; 24] } else { bytes };
+                let bytes = match kind {
+                    4 => vec![next as u8; SMALL],
+                    5 => vec![next as u8; LARGE],
+                    _ => bytes,
+                };
                 assert_eq!(written.expect("it is accepted").id, next);
                 wanted.extend_from_slice(&bytes);
-                waits.push_back((bytes, kind == 4));
+                waits.push_back((bytes, kind >= 4));
                 next += 1;
             }
             6 => {
@@ -390,7 +499,8 @@ fn an_owner_goes_however_its_message_does() {
         let end = match dice.below(12) {
             kind @ 0..5 => {
                 match kind {
-                    0 | 1 => write_watched(&mut connection, next, &dropped),
+                    0 => drop(connection.write_owned(Watched::<SMALL>::new(next, &dropped)).expect("it is accepted")),
+                    1 => write_watched(&mut connection, next, &dropped),
                     2 => drop(connection.write_static(b"for good").expect("it is accepted")),
                     _ => drop(connection.write(b"a copy").expect("it is accepted")),
                 }
