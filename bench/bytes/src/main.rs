@@ -2,13 +2,15 @@
 //! `limekeel`, and by a `VecDeque<Bytes>` with marks and `write_vectored`. Prints lines of a name, a size, how many are sent at once,
 //! and the nanoseconds of a message.
 
+#[path = "../../ffi/src/memory.rs"]
+mod memory;
 mod queue;
 
 use bytes::Bytes;
 use limekeel::{Block, Connection, Estimate, Marks};
+use memory::Memory;
 use queue::Queue;
 use std::hint::black_box;
-use std::io::{self, IoSlice, Write};
 use std::time::Instant;
 
 const SIZES: [usize; 3] = [64, 1024, 16384];
@@ -16,24 +18,6 @@ const BATCHES: [usize; 3] = [1, 16, 240];
 /// How many messages are timed at once, which each batch divides, and how often; the least time counts.
 const MESSAGES: usize = 960;
 const TIMES: usize = 300;
-
-/// A socket in memory that takes all.
-struct Memory;
-
-impl Write for Memory {
-    fn write(&mut self, bytes: &[u8]) -> io::Result<usize> {
-        Ok(black_box(bytes).len())
-    }
-
-    #[inline(never)]
-    fn write_vectored(&mut self, slices: &[IoSlice<'_>]) -> io::Result<usize> {
-        Ok(black_box(slices).iter().map(|slice| slice.len()).sum())
-    }
-
-    fn flush(&mut self) -> io::Result<()> {
-        Ok(())
-    }
-}
 
 fn time(name: &str, size: usize, batch: usize, mut turn: impl FnMut()) {
     let mut least = f64::INFINITY;

@@ -8,6 +8,7 @@
 #[path = "../../by_hand/outbound/mod.rs"]
 mod by_hand;
 
+mod memory;
 mod sending;
 mod threads;
 

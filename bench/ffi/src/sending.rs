@@ -1,6 +1,7 @@
 //! Times messages that are copied, shared, owned, static or made in place, flushed and sent into memory by `send_to`, beside a
 //! queue by hand that is written by one `write_vectored`. Prints lines `sent NAME BATCH` and the nanoseconds of a message.
 
+use crate::memory::Memory;
 use crate::{BYTES, TIMES};
 use limekeel::{Block, Connection, Estimate, Marks};
 use std::collections::VecDeque;
@@ -15,24 +16,6 @@ const BATCHES: [usize; 3] = [1, 16, 240];
 const MESSAGES: usize = 960;
 /// How many slices the queue by hand offers at once.
 const SLICES: usize = 64;
-
-/// A socket in memory that takes all.
-struct Memory;
-
-impl Write for Memory {
-    fn write(&mut self, bytes: &[u8]) -> io::Result<usize> {
-        Ok(black_box(bytes).len())
-    }
-
-    #[inline(never)]
-    fn write_vectored(&mut self, slices: &[IoSlice<'_>]) -> io::Result<usize> {
-        Ok(black_box(slices).iter().map(|slice| slice.len()).sum())
-    }
-
-    fn flush(&mut self) -> io::Result<()> {
-        Ok(())
-    }
-}
 
 /// A list of bytes that are shared or owned, with what is sent of the first, a total and a flag.
 struct Queue<T> {
