@@ -21,21 +21,21 @@ static const uint8_t *end_of(const struct iovec *slice)
  * last is kept at hand: else each that joins it waits for the length that the one before wrote. */
 static size_t joined(struct iovec *slices, size_t count)
 {
-    size_t last = 0;
-    const uint8_t *end = end_of(slices);
+    struct iovec *last = slices;
+    const uint8_t *end = end_of(last);
+    const struct iovec *next = slices + 1, *behind = slices + count;
     /* those before the first that joins another stay as they are */
-    while (last + 1 < count && (const uint8_t *)slices[last + 1].iov_base != end)
-        end = end_of(&slices[++last]);
-    for (size_t at = last + 1; at < count; at++) {
-        const uint8_t *next = end_of(&slices[at]);
-        if ((const uint8_t *)slices[at].iov_base != end) {
-            slices[last].iov_len = (size_t)(end - (const uint8_t *)slices[last].iov_base);
-            slices[++last].iov_base = slices[at].iov_base;
+    for (; next < behind && next->iov_base != end; next++)
+        end = end_of(++last);
+    for (; next < behind; next++) {
+        if (next->iov_base != end) {
+            last->iov_len = (size_t)(end - (const uint8_t *)last->iov_base);
+            end = (++last)->iov_base = next->iov_base;
         }
-        end = next;
+        end += next->iov_len;
     }
-    slices[last].iov_len = (size_t)(end - (const uint8_t *)slices[last].iov_base);
-    return last + 1;
+    last->iov_len = (size_t)(end - (const uint8_t *)last->iov_base);
+    return (size_t)(last - slices) + 1;
 }
 
 static size_t bytes_in(const struct iovec *slices, size_t count)

@@ -340,8 +340,9 @@ pub(crate) fn joined(pieces: &mut [sys::Piece]) -> usize {
             pieces[last].length = length_to(end, pieces[last]);
             last += 1;
             pieces[last] = piece;
+            end = piece.at;
         }
-        end = end_of(piece);
+        end = end.wrapping_add(piece.length);
     }
     pieces[last].length = length_to(end, pieces[last]);
     last + 1
