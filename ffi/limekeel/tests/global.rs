@@ -80,7 +80,7 @@ fn a_shared_connection_is_counted_and_comes_back() {
     let opened = LIVE.get() - before;
     let second = connection.clone();
     let handle = LIVE.get() - before - opened;
-    assert!((712..=776).contains(&opened) && handle <= 8 + 16, "{opened} {handle}");
+    assert!((744..=808).contains(&opened) && handle <= 8 + 16, "{opened} {handle}");
     for id in (0..100).step_by(2) {
         assert_eq!(second.write(&[2; 100]).expect("it is accepted").id, id);
         assert_eq!(connection.write_owned([3; 50]).expect("it is accepted").id, id + 1);
