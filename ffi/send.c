@@ -30,7 +30,8 @@ static size_t joined(struct iovec *slices, size_t count)
     for (; next < behind; next++) {
         if (next->iov_base != end) {
             last->iov_len = (size_t)(end - (const uint8_t *)last->iov_base);
-            end = (++last)->iov_base = next->iov_base;
+            end = next->iov_base;
+            (++last)->iov_base = next->iov_base;
         }
         end += next->iov_len;
     }

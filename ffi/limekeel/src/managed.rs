@@ -187,8 +187,7 @@ impl ManagedConnection {
         Written::of(self.handle.write_static(bytes))
     }
 
-    /// Writes the bytes of `owner` where they lie, as [`crate::Connection::write_owned`]. It is refused as
-    /// [`Self::write`] is.
+    /// Writes the bytes of `owner` where they lie, as [`crate::Connection::write_owned`]. It is refused as [`Self::write`] is.
     pub fn write_owned<T: AsRef<[u8]> + Send + 'static>(&mut self, owner: T) -> Result<Written, Refused<T>> {
         let answer = self.handle.lends().write_owned(owner).answer;
         answer.map(Written::accepted).map_err(|(refusal, owner)| Refused { refusal, owner })

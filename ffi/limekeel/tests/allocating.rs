@@ -235,6 +235,17 @@ fn as_many_owners_as_before_take_memory_once() {
 }
 
 #[test]
+fn a_short_list_is_freed_by_its_write() {
+    // by hand: the copy of 256 bytes alone, or the list and room for two owners
+    for (length, left) in [(256, 256), (257, 257 + 2 * 48)] {
+        let mut connection = Connection::open(Marks::default(), Estimate::default()).expect("there is memory");
+        let before = LIVE.get();
+        let _ = connection.write_owned(vec![1; length]).expect("it is accepted");
+        assert_eq!(LIVE.get() - before, left);
+    }
+}
+
+#[test]
 fn a_copy_is_refused_as_the_archive_refuses_it() {
     let mut connection = Connection::open(Marks::default(), Estimate::default()).expect("there is memory");
     let kept = LIVE.get();
