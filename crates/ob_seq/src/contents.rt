@@ -10,6 +10,7 @@ pub(crate) mod front;
 mod gather;
 mod gather_into;
 mod give_back;
+mod join;
 mod marks;
 mod promises;
 mod seen;

@@ -128,6 +128,11 @@ first_blocks_are limit most blocks =
 pub none_left : (limit count room : ℕ) → more_blocks limit count room [] ≡ []
 none_left limit count room = take-nil (share limit count 0)
 
+-- with no room none goes behind the first
+pub none_behind : (limit count : ℕ) (blocks : List (List ℕ)) → 0 < count → more_blocks limit count 0 blocks ≡ []
+none_behind limit count blocks some =
+    let few : share limit count 0 ≡ 0 = omega (arith, some) in rw (no_room blocks, few) refl
+
 -- whether one more block of this size goes along
 abbrev goes_along : ℕ → ℕ → ℕ → ℕ → Bool
 goes_along limit count room size = ltb count limit && (leb count 0 || leb size room)
