@@ -1,7 +1,7 @@
 //! What can be sent at once, as pieces for `writev`.
 
 ghost use Rattle.std.specs.Option.{option_copied};
-ghost use Rattle.std.specs.Prelude.{◌≡◌, ◌&&◌, ◌||◌, nat_le, nat_lt, length, drop, Some};
+ghost use Rattle.std.specs.Prelude.{◌≡◌, length, drop, Some};
 ghost use Rattle.ob_c.specs.Calls.{Gathers, front_number, gathered_as};
 ghost use Rattle.ob_c.specs.Replies.{not_open};
 
@@ -82,32 +82,23 @@ fn lay(connection: &Connection, pieces: &mut [Piece], max_bytes: u32) -> usize
         };
         let length = bytes.len() as u64;
         if length > 0 {
-            if !goes_along(count, pieces.len(), length, room) {
+            if count >= pieces.len() {
+                break;
+            }
+            if length > room {
+                // The first goes in any case, and none behind it: to end here leaves the loop its registers.
+                if count == 0 {
+                    pieces[0] = Piece::of(bytes.as_slice());
+                    return 1;
+                }
                 break;
             }
             pieces[count] = Piece::of(bytes.as_slice());
             count += 1;
-            room = room.saturating_sub(length);
+            room -= length;
         }
     }
     count
-}
-
-/// Whether one more block goes along with `count` others, which left this much room: the first does in any case.
-fn goes_along(count: usize, most: usize, length: u64, room: u64) -> bool
-    ensures { result ≡ (nat_lt count most && (nat_le count 0 || nat_le length room)) }
-{
-    count < most && (length <= room || is_first(count))
-}
-
-/// Whether no block goes before this one.
-// Few blocks find no room: apart, the others are not tested for it.
-#[cold]
-#[inline(never)]
-fn is_first(count: usize) -> bool
-    ensures { result ≡ nat_le count 0 }
-{
-    count == 0
 }
 
 /// The number of what stands in front, if `count` pieces were filled.
