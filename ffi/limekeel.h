@@ -1172,7 +1172,7 @@ static inline void limekeel_budgeted_ask_ahead(struct limekeel_budgeted *budgete
 /* A message that was written where it was made keeps its bytes there. */
 static inline void limekeel_keep_reserved(struct limekeel_rooms *rooms, uint32_t status, uint64_t id, size_t length)
 {
-    if (status == LIMEKEEL_OK && rooms->at) {
+    if (status == LIMEKEEL_OK) {
         rooms->at += length;
         rooms->left -= length;
         rooms->end = id + 1;
@@ -1183,10 +1183,13 @@ static inline void limekeel_keep_reserved(struct limekeel_rooms *rooms, uint32_t
     }
 }
 
+/* If no memory was reserved, there is none to keep: the message is of no bytes. */
 LIMEKEEL_TOLD static inline struct limekeel_written limekeel_write_reserved(struct limekeel_rooms *rooms,
                                                                             struct limekeel_connection *connection, size_t length)
 {
-    struct limekeel_written written = limekeel_write_lent(connection, rooms->at, length);
+    if (!rooms->at)
+        return limekeel_write_lent(connection, NULL, 0);
+    struct limekeel_written written = limekeel_write_lent_bytes(connection, rooms->at, length);
     limekeel_keep_reserved(rooms, written.status, written.id, length);
     return written;
 }
@@ -1194,7 +1197,9 @@ LIMEKEEL_TOLD static inline struct limekeel_written limekeel_write_reserved(stru
 LIMEKEEL_TOLD static inline struct limekeel_written limekeel_managed_write_reserved(struct limekeel_rooms *rooms,
                                                                                     struct limekeel_managed *managed, size_t length)
 {
-    struct limekeel_written written = limekeel_managed_write_lent(managed, rooms->at, length);
+    if (!rooms->at)
+        return limekeel_managed_write_lent(managed, NULL, 0);
+    struct limekeel_written written = limekeel_managed_write_lent_bytes(managed, rooms->at, length);
     limekeel_keep_reserved(rooms, written.status, written.id, length);
     return written;
 }
@@ -1203,7 +1208,9 @@ LIMEKEEL_TOLD static inline struct limekeel_pressed_written limekeel_budgeted_wr
                                                                                              struct limekeel_budgeted *budgeted,
                                                                                              size_t length)
 {
-    struct limekeel_pressed_written told = limekeel_budgeted_write_lent(budgeted, rooms->at, length);
+    if (!rooms->at)
+        return limekeel_budgeted_write_lent(budgeted, NULL, 0);
+    struct limekeel_pressed_written told = limekeel_budgeted_write_lent_bytes(budgeted, rooms->at, length);
     limekeel_keep_reserved(rooms, told.status, told.id, length);
     return told;
 }

@@ -9,6 +9,13 @@
 
 #include "limekeel.h"
 
+/* Each of the three sendings gets code of its own, which knows what it sends from: little of it is run, and that lies together. */
+#ifdef __GNUC__
+#define IN_EACH static inline __attribute__((always_inline))
+#else
+#define IN_EACH static inline
+#endif
+
 /* How many blocks are gathered for one call at most: many small ones lie together, and are one slice then. */
 #define GATHERED (2 * LIMEKEEL_PIECES)
 
@@ -83,7 +90,7 @@ struct told {
     uint32_t pressure;
 };
 
-static size_t gather_each(struct source source, struct iovec *slices, size_t most)
+IN_EACH size_t gather_each(struct source source, struct iovec *slices, size_t most)
 {
     struct limekeel_piece *pieces = (struct limekeel_piece *)slices;
     if (source.managed)
@@ -94,20 +101,20 @@ static size_t gather_each(struct source source, struct iovec *slices, size_t mos
 }
 
 /* Fills slices with at most this many blocks in front, and returns how many slices they are: those that lie together are one. */
-static size_t gather(struct source source, struct iovec *slices, size_t most)
+IN_EACH size_t gather(struct source source, struct iovec *slices, size_t most)
 {
     size_t count = gather_each(source, slices, most);
     return count > 0 ? joined(slices, count) : 0;
 }
 
-static bool is_empty(struct source source)
+IN_EACH bool is_empty(struct source source)
 {
     if (source.budgeted)
         return limekeel_budgeted_state(source.budgeted).empty;
     return source.managed ? limekeel_managed_state(source.managed).empty : limekeel_is_empty(source.connection).holds;
 }
 
-static struct limekeel_taken take_sent(struct source source, uint64_t bytes, struct told *told)
+IN_EACH struct limekeel_taken take_sent(struct source source, uint64_t bytes, struct told *told)
 {
     if (source.managed) {
         struct limekeel_told_taken taken = limekeel_managed_take_sent(source.managed, bytes);
@@ -124,7 +131,7 @@ static struct limekeel_taken take_sent(struct source source, uint64_t bytes, str
 }
 
 /* Takes away what was sent, along with what went before. */
-static void take(struct source source, uint64_t bytes, struct told *told)
+IN_EACH void take(struct source source, uint64_t bytes, struct told *told)
 {
     struct limekeel_taken taken = take_sent(source, bytes, told);
     struct limekeel_sent *sent = &told->sent;
@@ -140,7 +147,7 @@ static void take(struct source source, uint64_t bytes, struct told *told)
     sent->bytes += bytes;
 }
 
-static struct told send_from(struct source source, int socket, uint32_t max_turns)
+IN_EACH struct told send_from(struct source source, int socket, uint32_t max_turns)
 {
     struct told told = {0};
     struct limekeel_sent *sent = &told.sent;
