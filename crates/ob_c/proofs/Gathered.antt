@@ -1,6 +1,5 @@
 -- What is gathered of the messages that are left to send: those that were voided hold no byte.
-use Rattle.std.proofs.lemmas.Bool.Decides.{nat_tests}
-use Rattle.std.proofs.Common.{◌≡◌, ◌≤◌, ◌<◌, ◌+◌, ◌-◌, ℕ, Bool, true, false, List, [], ◌∷◌, ◌++◌, length, map, take, filter, slice_set, Bor, refl, sym, ap, ◌∙◌, arith, ◌&&◌, ◌||◌, nat_le, nat_lt}
+use Rattle.std.proofs.Common.{◌≡◌, ◌≤◌, ◌<◌, ◌+◌, ◌-◌, ℕ, true, false, List, [], ◌∷◌, ◌++◌, length, map, take, filter, slice_set, Bor, refl, sym, ap, ◌∙◌, arith}
 use Rattle.std.proofs.lemmas.List.{append-nil, length-append, map-append, take_more_set}
 use Rattle.ob_types.specs.declared.command.Command.{Command}
 use Rattle.ob_types.specs.declared.message.Message.{Message}
@@ -10,7 +9,7 @@ use Rattle.ob_seq.specs.Effect.{block_bytes, blocks_in_front, rows_after}
 use Rattle.ob_seq.specs.Looks.{first_blocks, with_bytes, gathered_after, flushed_after}
 use Rattle.ob_seq.specs.Rows.{line, Row, Place, unread_part, without_skipped, is_flushed, Settings}
 use Rattle.ob_seq.proofs.Words.{cond, take_while-cons}
-use Rattle.ob_seq.proofs.Inside.Gathered.{ended, first_blocks_are, more_blocks, none_behind, none_left, passed, pushed}
+use Rattle.ob_seq.proofs.Inside.Gathered.{ended, first_blocks_are, goes_along, more_blocks, none_behind, none_left, passed, pushed}
 use Rattle.ob_connection.specs.Connected.{Connected, Gives}
 use Rattle.ob_connection.specs.Connected.{AreFlushed}
 use Rattle.ob_c.specs.Calls.{AreAt, gathered_as, piece_of}
@@ -72,19 +71,6 @@ laid_more count pieces piece items bytes room is (references, shown, lie) = (
       ∙ ap (λ one. map piece_of references ++ one ∷ []) is ∙ sym (map-append piece_of references (bytes ∷ [])),
 )
 
--- whether one more block of this size goes along with `count` others
-abbrev pub goes : ℕ → ℕ → ℕ → ℕ → Bool
-goes limit count room size = nat_lt count limit && (nat_le count 0 || nat_le size room)
-
-pub goes_within : (limit count room size : ℕ) → count < limit → size ≤ room → goes limit count room size ≡ true
-goes_within limit count room size within fits = grind (arith, nat_tests)
-
-pub goes_first : (limit room size : ℕ) → 0 < limit → goes limit 0 room size ≡ true
-goes_first limit room size some = grind (arith, nat_tests)
-
-pub goes_not_over : (limit count room size : ℕ) → 0 < count → room < size → goes limit count room size ≡ false
-goes_not_over limit count room size some over = grind (arith, nat_tests)
-
 -- `count` pieces are laid, and what is gathered are their blocks and, of these messages, as many as there is room for
 abbrev pub Laid : Connected → ℕ → ℕ → ℕ → List Piece → ℕ → List Message → Type 0
 Laid connection limit most count pieces room messages =
@@ -118,7 +104,7 @@ module _ (connection : Connected) (limit most : ℕ) where
 
     -- another goes along
     pub laid_along : (piece : Piece) (reference : Bor (List ℕ)) → 0 < length bytes → count < length pieces →
-        goes limit count room (length bytes) ≡ true → piece ≡ piece_of reference →
+        goes_along limit count room (length bytes) ≡ true → piece ≡ piece_of reference →
         reference.now ≡ bytes → Laid connection limit most count pieces room (Block bytes ∷ rest) →
         Laid connection limit most (count + 1) (slice_set pieces count piece) (room - length bytes) rest
     laid_along piece reference some within goes is same (items, many, at, given) = (
@@ -145,7 +131,7 @@ module _ (connection : Connected) (limit most : ℕ) where
   module _ (count room : ℕ) (pieces : List Piece) where
     -- so at a block that has no room,
     pub laid_at_full : (bytes : List ℕ) (rest : List Message) → 0 < length bytes →
-        goes limit count room (length bytes) ≡ false →
+        goes_along limit count room (length bytes) ≡ false →
         Laid connection limit most count pieces room (Block bytes ∷ rest) →
         gathered_as connection limit most count pieces
     laid_at_full bytes rest some full =

@@ -1,6 +1,6 @@
 //! The writes.
 
-ghost use Rattle.std.specs.Prelude.{◌≡◌, IfSome, None, Ok, Some};
+ghost use Rattle.std.specs.Prelude.{◌≡◌, IfSome, Some};
 ghost use Rattle.ob_types.specs.declared.command.Command.TheVariants.{Write};
 ghost use Rattle.ob_types.specs.declared.message.Message.TheVariants.{Block as AsBlock, Region as AsRegion, Other as AsOther};
 ghost use Rattle.ob_connection.specs.Obeying.{Obeys, written_reply};
@@ -36,9 +36,9 @@ pub extern "C" fn limekeel_write_block(handle: &mut Handle, block: &mut Block) -
 {
     // Shared before anything is asked: what the handle holds would be read once more behind that.
     if let Some(shared) = shared(block)
-        && let Some(written) = join(handle, shared)
+        && takes_at_once(handle, shared.len())
     {
-        return Written::of(Ok(written));
+        return Written::of(handle.command(|connection| write(connection, Message::Block(shared))));
     }
     let Written { status, change, id } = share_at_length(handle, block);
     Written { status, change, id }
@@ -57,7 +57,7 @@ fn shared(block: &mut Block) -> Option<Bytes>
     bytes.clone().ok()
 }
 
-/// The same of a connection that grows by it, turns by it or refuses it, or if one of the two holds nothing.
+/// The same of a connection that grows by it or refuses it, or if one of the two holds nothing.
 // As `lend_at_length`.
 #[cold]
 #[inline(never)]
@@ -83,17 +83,17 @@ fn share_at_length(handle: &mut Handle, block: &mut Block) -> Written
 pub extern "C" fn limekeel_write_lent_bytes(handle: &mut Handle, bytes: &'static [u8]) -> Written
     ensures { ObeysFor handle.old.value (Write (AsBlock bytes.now)) written_reply written_in_c result handle.new.value }
 {
-    if let Some(written) = join(handle, Bytes::from_static(bytes)) {
-        return Written::of(Ok(written));
+    if !takes_at_once(handle, bytes.len()) {
+        // Returned as it is, the answer of a write goes through memory too, and is read there by other pieces than it was
+        // written in, for which the processor waits.
+        let Written { status, change, id } = lend_at_length(handle, bytes);
+        return Written { status, change, id };
     }
-    // Returned as it is, the answer of a write goes through memory too, and is read there by other pieces than it was
-    // written in, for which the processor waits.
-    let Written { status, change, id } = lend_at_length(handle, bytes);
-    Written { status, change, id }
+    Written::of(handle.command(|connection| write(connection, lent(bytes))))
 }
 
-/// The same of a connection that grows by it, turns by it or refuses it, or of none.
-// It is rare: apart, a write saves no registers for it.
+/// The same of a connection that grows by it, of one that refuses it, or of none.
+// It is rare: apart, a write saves no registers for it. Each of the two has a closure of its own, and so in one piece with it.
 #[cold]
 #[inline(never)]
 fn lend_at_length(handle: &mut Handle, bytes: &'static [u8]) -> Written
@@ -102,17 +102,17 @@ fn lend_at_length(handle: &mut Handle, bytes: &'static [u8]) -> Written
     Written::of(handle.command(|connection| write(connection, lent(bytes))))
 }
 
-/// Writes a block that only joins what waits. Else, or without a connection, nothing changes.
+/// Whether there is a connection that takes in a block of *n* bytes without growing.
+// A write asks the same. Asked before, nothing is left there but to write, and what tells refusals apart takes none of its registers.
 #[inline(always)]
-fn join(handle: &mut Handle, block: Bytes) -> Option<ob_connection::Written>
-    ensures some { IfSome result (λ written. ObeysFor handle.old.value (Write (AsBlock block)) written_reply written_in_c
-        (written_in_c (Ok written)) handle.new.value) }
-    ensures none { result ≡ None → handle.new.value ≡ handle.old.value }
+fn takes_at_once(handle: &mut Handle, n: usize) -> bool
+    ensures { handle.new.value ≡ handle.old.value }
 {
     if !handle.is_open() {
-        return None;
+        return false;
     }
-    handle.reach().join(block).ok()
+    let connection = handle.reach();
+    connection.has_place() && connection.refusal_of_length(n).is_none()
 }
 
 /// Writes a region of `length` bytes, which the transport sends by itself.

@@ -1,7 +1,7 @@
 -- What is asked of a write to a connection.
-use Rattle.ob_connection.proofs.Words.{◌≡◌, ◌≤◌, ◌<◌, ◌+◌, ℕ, List, length, nat_tests, true, refl, sym, ap, ◌∙◌, arith, Past, held, whole, []}
+use Rattle.ob_connection.proofs.Words.{◌≡◌, ◌≤◌, ◌+◌, ℕ, List, length, nat_tests, true, refl, sym, ap, ◌∙◌, arith, Past, held, whole, []}
 use Rattle.ob_connection.proofs.Words.{connection_limit, accepted_writes, most_ids, Connected, Result, Ok, Err, Refusal}
-use Rattle.ob_connection.proofs.Words.{NoMemory, Moves, step_within, Option, Outcome, Some, Unsent, change_between}
+use Rattle.ob_connection.proofs.Words.{NoMemory, Moves, step_within, Option, Outcome, Unsent, change_between}
 use Rattle.std.specs.Result.{result_err}
 use Rattle.ob_types.specs.PendingSize.{pending_size_of, pending_size_of_bytes}
 use Rattle.ob_types.specs.declared.command.Command.TheVariants.{Write}
@@ -9,7 +9,6 @@ use Rattle.ob_types.specs.declared.estimate.Estimate.{Estimate}
 use Rattle.ob_types.specs.declared.message.Message.{Message}
 use Rattle.ob_types.specs.declared.message.Message.TheVariants.{Block}
 use Rattle.ob_types.specs.declared.reply.Change.{Change}
-use Rattle.ob_seq.specs.Steps.Within.{joins_as}
 use Rattle.ob_seq.specs.Steps.Commands.{asked, has_bytes_left, written}
 use Rattle.ob_seq.proofs.Inside.Steps.{asked_there, few, first_is, light, refusal_other, write_made, write_wanting}
 use Rattle.ob_connection.specs.Inside.{IsFirstRefusal, admission}
@@ -55,11 +54,6 @@ module _ (now : Connected) (message : Message) {size : ℕ} (is : Ok size ≡ ad
 
   pub bytes_left : has_bytes_left size (whole [] now.unsent) ≡ true
   bytes_left = light connection_limit message (held (some_past now)) (asked_held message is (some_past now))
-
--- a block that only joins what waits is admitted
-pub joining_is_admitted : (now : Connected) (bytes : List ℕ) {size : ℕ} → Some size ≡ joins_as now.unsent (length bytes) →
-    accepted_writes now < most_ids → Ok size ≡ admission now (Block bytes)
-joining_is_admitted now bytes is ids = grind (arith, nat_tests)
 
 -- a write that is made
 pub written_moves : {now : Connected} (message : Message) (new : Unsent) {size id : ℕ} {change : Option Change} →

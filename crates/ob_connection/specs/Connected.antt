@@ -1,7 +1,7 @@
 -- What a contract sees of a connection, the history that it stands for, its limit on writes, its room, and what it shows
 -- of its history, by the definitions of a buffer.
 use Rattle.std.specs.Prelude.{◌+◌, ℕ, Bool, List, [], Option, Some, None, Result, ◌≡◌, length, true, ◌≤◌, nat_lt}
-use Rattle.std.specs.Prelude.{if◌then◌else◌, option_map, IsSome, ◌<◌}
+use Rattle.std.specs.Prelude.{if◌then◌else◌, option_map}
 use Rattle.ob_types.specs.declared.command.Command.{Command}
 use Rattle.ob_types.specs.declared.promise.Outcome.{Outcome}
 use Rattle.ob_types.specs.declared.promise.PromiseId.{PromiseId}
@@ -11,7 +11,6 @@ use Rattle.ob_seq.specs.Unsent.{Unsent, waiting_count, whole, Shrinks as RingShr
 use Rattle.ob_seq.specs.Answer.{accepted_among_within, answer_within, is_accepted_within, are_accepted_within}
 use Rattle.ob_seq.specs.Answer.{first_refusal_within}
 use Rattle.ob_seq.specs.Rows.{Settings, line, unflushed}
-use Rattle.ob_seq.specs.Steps.Within.{joins_as}
 use Rattle.ob_seq.specs.Pending.{settled_along_within, StandsForWithin, GivesBy}
 use Rattle.ob_types.specs.declared.message.Message.{Message}
 use Rattle.ob_types.specs.declared.promise.PromiseState.{PromiseState}
@@ -90,10 +89,6 @@ room_in connection = connection.unsent.room
 abbrev pub roomed : Connected → Connected → Connected
 roomed other connection =
     record connection { unsent = record connection.unsent { room = other.unsent.room; capacity = other.unsent.capacity } }
-
--- a block of *n* bytes only joins what waits in a connection: its write changes nothing but that, and an id is left
-abbrev pub Joins : Connected → ℕ → Type 0
-Joins connection n = IsSome (joins_as connection.unsent n) × (accepted_writes connection < most_ids)
 
 -- there is room for as many as before
 abbrev pub KeepsRoom : Connected → Connected → Type 0

@@ -66,10 +66,6 @@ taken_reply promises taken = record {
   change = taken.change;
 }
 
--- the result of a write that was not refused
-abbrev pub as_written : Written → Result Written Refusal
-as_written written = Ok written
-
 -- the answer of a write, but for the message that came back
 abbrev pub answer_of_write : Result Written Refused → Result Written Refusal
 answer_of_write (Ok written) = Ok written

@@ -10,7 +10,6 @@ pub(crate) mod front;
 mod gather;
 mod gather_into;
 mod give_back;
-mod join;
 mod marks;
 mod promises;
 mod seen;

@@ -1,14 +1,14 @@
 //! Messages that are written as bytes, and what all writes share.
 
-ghost use Rattle.std.specs.Prelude.{◌≡◌, ◌<◌, ◌↔◌, ℕ, List, length, Ok, Some, None, IfErr, IfOk, IfSome, IsErrOf, IsOk, OnErr, OnOk, true};
+ghost use Rattle.std.specs.Prelude.{◌≡◌, ◌<◌, ℕ, List, length, Ok, Some, None, IfErr, IfSome, IsErrOf, OnOk, true};
 ghost use Rattle.std.specs.Result.{result_err};
 ghost use Rattle.ob_types.specs.Limits.{greatest_pending_size};
 ghost use Rattle.ob_types.specs.declared.command.Command.TheVariants.{Write};
 ghost use Rattle.ob_types.specs.declared.message.Message.TheVariants.{Block};
 ghost use Rattle.ob_seq.specs.Unsent.{room_for_one_more, spares};
-ghost use Rattle.ob_connection.specs.Connected.{room_in, Joins, KeepsRoom, Refuses};
+ghost use Rattle.ob_connection.specs.Connected.{room_in, Refuses};
 ghost use Rattle.ob_connection.specs.Inside.{admission};
-ghost use Rattle.ob_connection.specs.Obeying.{Obeys, answer_of_write, as_written, joined, written_reply};
+ghost use Rattle.ob_connection.specs.Obeying.{Obeys, answer_of_write, joined, written_reply};
 
 use crate::connection::Connection;
 use crate::refused::Refused;
@@ -48,30 +48,6 @@ impl Connection {
         let size = self.admits_block(block.len())?;
         let shared = block.clone()?;
         self.put_block(shared, size)
-    }
-
-    /// Adds a block behind all others as `write` does, if it only joins them: if a place is left for it, `write` would not refuse it,
-    /// and the word stays (bit 0 too: up to the high mark, and above it if the connection is unwritable for that). Else nothing
-    /// changes, and the block comes back, for `write`. It takes fewer steps than `write`, and does not allocate. Our own.
-    // Its message goes through no memory, as that of `Contents::add`.
-    #[inline(always)]
-    pub fn join(&mut self, block: Bytes) -> Result<Written, Bytes>
-        ensures obeys { IfOk result (λ written.
-            Obeys self.old (Write (Block block)) written_reply (as_written written) self.new) }
-        ensures room { OnOk result (KeepsRoom self.old self.new) }
-        ensures ok { IsOk result ↔ Joins self.old (length block) }
-        ensures err { OnErr result (self.new ≡ self.old) }
-        ensures returned { IfErr result (λ returned. returned ≡ block) }
-    {
-        let id = self.accepted_writes();
-        let Some(size) = self.contents.joins_as(block.len()) else {
-            return Err(block);
-        };
-        if id == MAX_WRITES {
-            return Err(block);
-        }
-        self.contents.join(Message::Block(block), size);
-        Ok(Written { id, change: None })
     }
 
     /// Adds a copy of these parts behind all others as one block, one part behind the other, as a header and a body; else

@@ -133,12 +133,21 @@ pub none_behind : (limit count : ℕ) (blocks : List (List ℕ)) → 0 < count �
 none_behind limit count blocks some =
     let few : share limit count 0 ≡ 0 = omega (arith, some) in rw (no_room blocks, few) refl
 
--- whether one more block of this size goes along
-abbrev goes_along : ℕ → ℕ → ℕ → ℕ → Bool
+-- whether one more block of this size goes along with `count` others
+abbrev pub goes_along : ℕ → ℕ → ℕ → ℕ → Bool
 goes_along limit count room size = ltb count limit && (leb count 0 || leb size room)
 
 pub goes_within : (limit count room size : ℕ) → goes_along limit count room size ≡ true → count < limit
 goes_within limit count room size goes = grind (arith, nat_tests)
+
+pub goes_first : (limit room size : ℕ) → 0 < limit → goes_along limit 0 room size ≡ true
+goes_first limit room size some = grind (arith, nat_tests)
+
+pub goes_with_room : (limit count room size : ℕ) → count < limit → size ≤ room → goes_along limit count room size ≡ true
+goes_with_room limit count room size within fits = grind (arith, nat_tests)
+
+pub goes_not_over : (limit count room size : ℕ) → 0 < count → room < size → goes_along limit count room size ≡ false
+goes_not_over limit count room size some over = grind (arith, nat_tests)
 
 module _ (limit room : ℕ) (items : List (List ℕ)) (block : List ℕ) (blocks : List (List ℕ)) {count size : ℕ}
     (many : count ≡ length items) (long : size ≡ length block) where

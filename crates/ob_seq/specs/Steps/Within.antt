@@ -2,8 +2,7 @@
 -- reply of the model. Each reply goes by the promises as they were before the call. Of public clauses those of
 -- `Contents` cite it, and of the replies those of connections.
 use Rattle.std.specs.Prelude.{◌≡◌, ◌+◌, ◌++◌, ◌∷◌, ℕ, Bool, true, false, List, [], if◌then◌else◌, Option, Some, None, Result, Ok, Err, ⊤}
-use Rattle.std.specs.Prelude.{IsErrOf, OnErr, map, take, nat_le, not, ◌&&◌, ◌==◌}
-use Rattle.ob_types.specs.Limits.{greatest_pending_size, greatest_total}
+use Rattle.std.specs.Prelude.{IsErrOf, OnErr, map, take}
 use Rattle.ob_types.specs.declared.promise.Outcome.{Outcome}
 use Rattle.ob_types.specs.declared.promise.Outcome.TheVariants.{Cancelled, Success}
 use Rattle.ob_types.specs.declared.promise.PromiseState.{PromiseState}
@@ -15,8 +14,8 @@ use Rattle.ob_types.specs.declared.reply.Reply.{Reply}
 use Rattle.ob_seq.specs.Answer.{told_by}
 use Rattle.ob_seq.specs.Pending.{Pending}
 use Rattle.ob_seq.specs.Steps.Commands.{bytes_removed, front_taken}
-use Rattle.ob_seq.specs.Steps.Step.{Step, Makes, pending_total, times, word_after_rise}
-use Rattle.ob_seq.specs.Unsent.{LeavesRoom, Unsent, ended, spares, waiting_count, whole}
+use Rattle.ob_seq.specs.Steps.Step.{Step, Makes, times}
+use Rattle.ob_seq.specs.Unsent.{LeavesRoom, Unsent, ended, waiting_count, whole}
 use Rattle.ob_seq.specs.declared.contents.cut.Cut.{Cut}
 use Rattle.ob_seq.specs.declared.contents.take.Front.{Front}
 
@@ -48,15 +47,6 @@ pub record TakesCut (cut : Cut) (old new : Unsent) : Type 0 where
       whole (gone ++ map (ended Success) (take cut.whole old.line)) new ≡ bytes_removed cut (whole gone old)
   pub fewer : waiting_count new + cut.whole ≡ waiting_count old
   pub room : LeavesRoom cut.whole old.room old.capacity new.room new.capacity
-
--- what a block of *n* bytes counts if its write changes nothing but what waits: if this is open, a place is to spare, neither the
--- block nor what is pending with it is too large, and the word stays
-abbrev pub joins_as : Unsent → ℕ → Option ℕ
-joins_as unsent n =
-    let size = n + unsent.settings.estimate.overhead in
-    let total = pending_total (whole [] unsent) + size in
-    if spares unsent && not unsent.closed && nat_le size greatest_pending_size && nat_le total greatest_total
-    && (word_after_rise unsent.marks unsent.word size total == unsent.word) then Some size else None
 
 -- a call that has nothing to say
 abbrev pub done_reply : List PromiseState → ⊤ → Reply

@@ -62,7 +62,12 @@ impl Contents {
         };
         // Before the entry, behind which it would be read once more.
         self.total += size;
-        self.entries.push_back_reserved(Entry::of(message, size));
+        self.entries.push_back_reserved(Entry {
+            message,
+            progress: 0,
+            size,
+            taken_back: false,
+        });
         // Most often the word stays, and no write waits then for that of the one before.
         if !word::can_rise(self.marks, self.total) {
             return Ok(None);

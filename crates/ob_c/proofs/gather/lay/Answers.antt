@@ -1,8 +1,8 @@
 use Rattle.std.proofs.Common.{length, ◌+◌, ◌-◌, ◌∙◌, refl, slice_set, arith}
 use Rattle.std.proofs.lemmas.Grind.{drop_more_same}
 use Rattle.std.proofs.lemmas.List.{drop-set-lt, length-set}
-use Rattle.ob_c.proofs.Gathered.{begun, laid_along, laid_at_end, laid_at_full, laid_at_other, laid_behind_last}
-use Rattle.ob_c.proofs.Gathered.{goes_first, goes_not_over, goes_within, passed_over}
+use Rattle.ob_seq.proofs.Inside.Gathered.{goes_first, goes_not_over, goes_with_room}
+use Rattle.ob_c.proofs.Gathered.{begun, laid_along, laid_at_end, laid_at_full, laid_at_other, laid_behind_last, passed_over}
 use Rattle.ob_c.proofs.gather.lay.Goals as goal
 
 pub loop-message-init : goal.loop-message-init
@@ -25,7 +25,7 @@ loop-message-preserved-then-length-gt0 c =
           (laid_along c.args.connection.now limit c.args.max_bytes at.count at.room at.pieces bytes c.next.new.self
           c.of-then-length-gt0.result c.as_slice-then-length-gt0.result
           (rw c.len-length.ensures.value at c.if-length-gt0.true) (omega (arith, within))
-          (goes_within limit at.count at.room (length bytes) (omega (arith, within, at.invariant.as_many)) (omega (arith, fits)))
+          (goes_with_room limit at.count at.room (length bytes) (omega (arith, within, at.invariant.as_many)) (omega (arith, fits)))
           c.of-then-length-gt0.ensures c.as_slice-then-length-gt0.ensures
           (rw (c.in-Some.ensures.steps, c.in-Block.is) at at.invariant.laid));
       as_many = rw length-set at.invariant.as_many;

@@ -2,7 +2,7 @@
 
 use super::{flushed, open, sent, written};
 use bytes::Bytes;
-use ob_connection::{Connection, Written};
+use ob_connection::Connection;
 use ob_types::{Cause, Change, Message, Refusal, WaterMark};
 use std::test::Fail;
 
@@ -134,71 +134,6 @@ fn room_is_taken_in_few_steps_and_given_back(rt: HostRuntime) -> Result<(), Fail
     );
     drop(connection);
     Ok(())
-}
-
-#[test]
-fn a_block_joins_others_up_to_the_high_mark(rt: HostRuntime) -> Result<(), Fail> {
-    let mut connection = open(rt.alloc())?;
-    let no_place = connection.join(Bytes::from_static(b"a"));
-    let first = connection.write_copy(b"a");
-    // 97 bytes are pending, and 200 with 7 more and the overhead
-    let above = connection.join(Bytes::from_static(b"12345678"));
-    let up_to = connection.join(Bytes::from_static(b"1234567"));
-    let _flushed = connection.flush()?;
-    let bytes = gathered(&connection)?;
-    assert_eq!(rt;
-        (
-            [came_back(no_place), came_back(above)],
-            [first, joined(up_to)],
-            connection.is_writable(),
-            bytes.as_slice(),
-        ),
-        (
-            [Some(1), Some(8)],
-            [written(0, None), written(1, None)],
-            true,
-            b"a1234567".as_slice(),
-        )
-    );
-    drop((connection, bytes));
-    Ok(())
-}
-
-#[test]
-fn a_block_joins_above_it_once_the_mark_is_set(rt: HostRuntime) -> Result<(), Fail> {
-    let mut connection = open(rt.alloc())?;
-    let _written = [connection.write_copy(b"a"), connection.write_copy(b"b")];
-    let turns = connection.join(Bytes::from_static(b"c"));
-    let turned = connection.write_copy(b"c");
-    let stays = connection.join(Bytes::from_static(b"d"));
-    let _flushed = connection.flush()?;
-    let bytes = gathered(&connection)?;
-    let _taken = connection.give_up(Cause(1))?;
-    let closed = connection.join(Bytes::new());
-    assert_eq!(rt;
-        (
-            [came_back(turns), came_back(closed)],
-            [turned, joined(stays)],
-            bytes.as_slice(),
-        ),
-        (
-            [Some(1), Some(0)],
-            [written(2, Some(Change::Unwritable)), written(3, None)],
-            b"abcd".as_slice(),
-        )
-    );
-    drop((connection, bytes));
-    Ok(())
-}
-
-/// A write by `join` as one by `write_copy`.
-fn joined(joined: Result<Written, Bytes>) -> Result<Written, Refusal> {
-    joined.map_err(|_came_back| Refusal::NoMemory)
-}
-
-/// How long the block is that came back.
-fn came_back(joined: Result<Written, Bytes>) -> Option<usize> {
-    joined.err().map(|block| block.len())
 }
 
 #[test]

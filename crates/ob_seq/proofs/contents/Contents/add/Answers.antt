@@ -35,13 +35,11 @@ added inside old view sound message size word' gone kept items same more rises =
 pub returns-then-not-can_rise-clause-ok : goal.returns-then-not-can_rise-clause-ok
 returns-then-not-can_rise-clause-ok c gone =
     added c.self.inside c.args.self.now c.self.view_is c.self.invariant c.args.message c.args.size c.self.inside.word gone
-    c.make_room.new.self.items c.push_back_reserved.new.self.items c.in-Ok.ensures.items
-    (c.push_back_reserved.ensures.items ∙ ap (λ (entry : Entry). c.make_room.new.self.items ++ entry ∷ []) c.of.ensures)
+    c.make_room.new.self.items c.push_back_reserved.new.self.items c.in-Ok.ensures.items c.push_back_reserved.ensures.items
     (sym (c.if-not-can_rise.ensures c.self.inside.word c.args.size refl))
 
 pub returns-clause-ok : goal.returns-clause-ok
 returns-clause-ok c gone =
     added c.self.inside c.args.self.now c.self.view_is c.self.invariant c.args.message c.args.size
     c.after_rise-self-inside.result gone c.make_room.new.self.items c.push_back_reserved.new.self.items
-    c.in-Ok.ensures.items
-    (c.push_back_reserved.ensures.items ∙ ap (λ (entry : Entry). c.make_room.new.self.items ++ entry ∷ []) c.of.ensures) c.after_rise-self-inside.ensures
+    c.in-Ok.ensures.items c.push_back_reserved.ensures.items c.after_rise-self-inside.ensures
