@@ -197,16 +197,19 @@ impl Common {
         // what a user's owner does here, and when it is dropped, is not done under the mutex
         let bytes = owner.as_ref();
         let mut books = lock(&self.books);
-        if let Err(refusal) = books.lent.make_room() {
-            drop(books);
-            return Err((refusal, owner.into_inner()));
-        }
+        let vacant = match books.lent.vacant() {
+            Ok(vacant) => vacant,
+            Err(refusal) => {
+                drop(books);
+                return Err((refusal, owner.into_inner()));
+            }
+        };
         // SAFETY: the owner is kept under the promise of the message, before anyone can tell that as gone: who does takes the
         // books after that. What is kept is let go then, or behind the archive's connection at the end.
         let told = self.write(|| unsafe { sharer.write_lent(bytes) }, || unsafe { sharer.write_lent_within(bytes) });
         match done(told.status) {
             Ok(()) => {
-                books.lent.keep(owner, told.id);
+                vacant.place(owner).keep(told.id);
                 Ok(Written::accepted(told))
             }
             Err(refusal) => {

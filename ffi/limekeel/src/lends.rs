@@ -124,9 +124,6 @@ impl Lends<'_> {
         {
             return Owned::of(told, owner);
         }
-        if self.lent.make_room().is_err() {
-            return Owned::out_of_memory(owner);
-        }
         if fits::<T>() {
             return self.write_placed(owner);
         }
@@ -136,11 +133,14 @@ impl Lends<'_> {
         }
     }
 
-    /// The same of one that fits among those that are kept, where there is room for it.
+    /// The same of one that fits among those that are kept.
     #[inline]
     fn write_placed<T: AsRef<[u8]> + Send + 'static>(self, owner: T) -> Owned<T> {
         let Lends { mut archived, lent } = self;
-        let placed = lent.place(owner);
+        let Ok(vacant) = lent.vacant() else {
+            return Owned::out_of_memory(owner);
+        };
+        let placed = vacant.place(owner);
         let bytes = placed.bytes();
         // SAFETY: the pointer and the length are those of one slice. Its owner is kept under the promise of the message; what is
         // kept is let go if the archive told the message as gone, and behind the archive at the end.

@@ -4,7 +4,7 @@
 //! neither moved nor dropped, nor are its bytes changed, before [`Lent::let_go_below`] or [`Lent::let_go_if_below`] is called with
 //! an end above that promise.
 
-use crate::owners::{Kept, Owners, Placed};
+use crate::owners::{Kept, Owners, Vacant};
 use crate::replies::Refusal;
 use std::arch::x86_64::{_MM_HINT_T0, _mm_prefetch};
 use std::fmt::{self, Debug, Formatter};
@@ -44,22 +44,10 @@ impl Lent {
         self.owners.is_empty() && self.chunk.is_empty()
     }
 
-    /// Memory to keep one owner more.
+    /// Where one owner more stays if it is kept.
     #[inline]
-    pub(crate) fn make_room(&mut self) -> Result<(), Refusal> {
-        self.owners.make_room()
-    }
-
-    /// Puts an owner, for which `make_room` made room, where it stays if it is kept.
-    #[inline]
-    pub(crate) fn place<T: Send + 'static>(&mut self, owner: T) -> Placed<'_, T> {
-        self.owners.place(owner)
-    }
-
-    /// Keeps an owner, for which `make_room` made room, under the last promise that has a part in it.
-    #[inline]
-    pub(crate) fn keep<T: Send + 'static>(&mut self, owner: T, last: u64) {
-        self.owners.place(owner).keep(last);
+    pub(crate) fn vacant(&mut self) -> Result<Vacant<'_>, Refusal> {
+        self.owners.vacant()
     }
 
     /// Memory in which `most` bytes are made, behind those that are there.
@@ -85,11 +73,12 @@ impl Lent {
         // and more that wait share
         let shared = (2 * self.chunk.capacity()).clamp(SMALL, LARGE);
         next.try_reserve_exact(most.max(shared)).map_err(refused)?;
-        self.make_room()?;
+        let vacant = self.owners.vacant()?;
         self.had_full = true;
         let full = replace(&mut self.chunk, next);
-        self.add_to_burst(full.len());
-        self.keep(full, self.last);
+        let length = full.len();
+        vacant.place(full).keep(self.last);
+        self.add_to_burst(length);
         Ok(())
     }
 
@@ -153,10 +142,8 @@ impl Lent {
 
     /// Lets go of that in which no message from this promise on has a part. It does not allocate.
     pub(crate) fn let_go_below(&mut self, end: u64) {
-        while let Some(owner) = self.next_below(end) {
-            // a drop of the owner's that panics leaves the others for the next call
-            drop(owner);
-        }
+        // a drop of the owner's that panics leaves the others for the next call
+        self.owners.drop_below(end);
         // who lends owners one by one keeps room for few, and who copies or makes messages none
         if self.had_full {
             self.give_back();

@@ -6,7 +6,7 @@
 use crate::replies::Refusal;
 use std::collections::VecDeque;
 use std::marker::PhantomData;
-use std::mem::{ManuallyDrop, MaybeUninit, align_of, forget, size_of, take};
+use std::mem::{ManuallyDrop, MaybeUninit, align_of, forget, replace, size_of, take};
 use std::ptr::NonNull;
 
 /// For how many owners a segment has room: the first, which is kept if none is left, the second at least, and each at most that is
@@ -92,16 +92,41 @@ impl Segment {
         self.to == self.room
     }
 
-    /// Hands out the oldest.
+    /// Hands out the oldest. Without another the cells begin anew.
     #[inline]
     fn pop(&mut self) -> Option<Kept> {
         if self.is_empty() {
             return None;
         }
-        // SAFETY: this cell holds an owner, and holds none from now on.
-        let Cell { kept, .. } = unsafe { self.cells.add(self.from).read() };
-        self.from += 1;
+        let cell = self.leave_oldest();
+        // SAFETY: this cell holds an owner, and counts as empty from now on.
+        let Cell { kept, .. } = unsafe { cell.read() };
         Some(kept)
+    }
+
+    /// Drops the oldest where it lies.
+    #[inline]
+    fn drop_oldest(&mut self) {
+        if self.is_empty() {
+            return;
+        }
+        let cell = self.leave_oldest();
+        // SAFETY: this cell holds an owner, and counts as empty from now on, also if the drop panics. Nobody else has the segment
+        // meanwhile.
+        unsafe { (&raw mut (*cell.as_ptr()).kept).drop_in_place() };
+    }
+
+    /// The cell of the oldest, which counts as empty from now on.
+    #[inline]
+    fn leave_oldest(&mut self) -> NonNull<Cell> {
+        debug_assert!(!self.is_empty());
+        // SAFETY: it is one of these cells.
+        let cell = unsafe { self.cells.add(self.from) };
+        self.from += 1;
+        if self.is_empty() {
+            (self.from, self.to) = (0, 0);
+        }
+        cell
     }
 
     /// The last promise that has a part in the oldest.
@@ -136,7 +161,8 @@ pub(crate) struct Owners {
     front: Segment,
     /// Those behind them, of which only the last segment may have none.
     behind: VecDeque<Segment>,
-    /// How many came since there was none; and how many came before that, for which it makes room again.
+    /// How many came since there was none into segments that have none any more; and how many came in all before that, for which it
+    /// makes room again.
     came: u32,
     came_before: u32,
 }
@@ -166,10 +192,16 @@ impl Owners {
         self.behind.back_mut().unwrap_or(&mut self.front)
     }
 
-    /// Memory for one more.
+    /// Where one more stays if it is kept.
     #[inline]
-    pub(crate) fn make_room(&mut self) -> Result<(), Refusal> {
-        if self.newest().is_full() { self.grow() } else { Ok(()) }
+    pub(crate) fn vacant(&mut self) -> Result<Vacant<'_>, Refusal> {
+        if self.newest().is_full() {
+            self.grow()?;
+        }
+        let segment = self.newest();
+        // SAFETY: it is not full, so there is such a cell, and it holds nothing.
+        let cell = unsafe { segment.cells.add(segment.to) };
+        Ok(Vacant { cell, to: &mut segment.to })
     }
 
     #[cold]
@@ -186,40 +218,47 @@ impl Owners {
         Ok(())
     }
 
-    /// Puts an owner where it stays, behind the others. There is room for it.
-    #[inline]
-    pub(crate) fn place<T: Send + 'static>(&mut self, owner: T) -> Placed<'_, T> {
-        let segment = self.behind.back_mut().unwrap_or(&mut self.front);
-        assert!(fits::<T>() && !segment.is_full());
-        // SAFETY: there is such a cell, and it holds nothing.
-        let cell = unsafe { segment.cells.add(segment.to) };
-        // SAFETY: the cell is this segment's own. In its room is space for a `T`, at an address that suits one.
-        unsafe {
-            (&raw mut (*cell.as_ptr()).kept.room).cast::<T>().write(owner);
-            (&raw mut (*cell.as_ptr()).kept.drop).write(drop_in::<T>);
-        }
-        Placed { cell, to: &mut segment.to, came: &mut self.came, of: PhantomData }
-    }
-
     /// Hands out the oldest if no message from this promise on has a part in it.
     #[inline]
     pub(crate) fn pop_below(&mut self, end: u64) -> Option<Kept> {
         if !self.have_below(end) {
             return None;
         }
-        let kept = self.front.pop();
-        if self.front.is_empty() {
-            self.leave_front();
+        if self.front.count() > 1 {
+            return self.front.pop();
         }
-        kept
+        match self.next_in_front() {
+            Some(mut gone) => gone.pop(),
+            None => self.front.pop(),
+        }
     }
 
-    /// Goes on with the segment behind that in front, which has given all away; without one that begins anew.
-    fn leave_front(&mut self) {
-        match self.behind.pop_front() {
-            Some(next) => self.front = next,
-            None => (self.front.from, self.front.to) = (0, 0),
+    /// Drops those in which no message from this promise on has a part, where they lie. If a drop panics, the others are left.
+    #[inline]
+    pub(crate) fn drop_below(&mut self, end: u64) {
+        while self.have_below(end) {
+            if self.front.count() > 1 {
+                self.front.drop_oldest();
+            } else {
+                self.drop_last_in_front();
+            }
         }
+    }
+
+    /// Drops the only one in front.
+    #[inline(never)]
+    fn drop_last_in_front(&mut self) {
+        match self.next_in_front() {
+            Some(gone) => drop(gone),
+            None => self.front.drop_oldest(),
+        }
+    }
+
+    /// Hands out the segment in front, which is about to give away its last, if there is one to go on with.
+    fn next_in_front(&mut self) -> Option<Segment> {
+        self.came = self.came.saturating_add(self.front.to as u32);
+        let next = self.behind.pop_front()?;
+        Some(replace(&mut self.front, next))
     }
 
     /// Keeps room for few if there are none.
@@ -245,12 +284,33 @@ pub(crate) const fn fits<T>() -> bool {
     size_of::<T>() <= size_of::<Room>() && align_of::<T>() <= align_of::<Room>()
 }
 
+/// A cell behind all owners, which holds nothing.
+pub(crate) struct Vacant<'a> {
+    cell: NonNull<Cell>,
+    /// Up to where its segment has owners.
+    to: &'a mut usize,
+}
+
+impl<'a> Vacant<'a> {
+    /// Puts an owner where it stays if it is kept.
+    #[inline]
+    pub(crate) fn place<T: Send + 'static>(self, owner: T) -> Placed<'a, T> {
+        assert!(fits::<T>());
+        let Vacant { cell, to } = self;
+        // SAFETY: the cell is there, and nothing else uses it. In its room is space for a `T`, at an address that suits one.
+        unsafe {
+            (&raw mut (*cell.as_ptr()).kept.room).cast::<T>().write(owner);
+            (&raw mut (*cell.as_ptr()).kept.drop).write(drop_in::<T>);
+        }
+        Placed { cell, to, of: PhantomData }
+    }
+}
+
 /// An owner that lies where it stays if it is kept, and else is dropped.
 pub(crate) struct Placed<'a, T> {
     cell: NonNull<Cell>,
-    /// Up to where its segment has owners, and how many came.
+    /// Up to where its segment has owners.
     to: &'a mut usize,
-    came: &'a mut u32,
     of: PhantomData<T>,
 }
 
@@ -277,7 +337,6 @@ impl<T> Placed<'_, T> {
         // SAFETY: the cell is there, and nothing else uses it.
         unsafe { (&raw mut (*self.cell.as_ptr()).last).write(last) };
         *self.to += 1;
-        *self.came = self.came.saturating_add(1);
         forget(self);
     }
 
