@@ -219,25 +219,57 @@ impl Drop for Loud {
     }
 }
 
+/// A connection with 40 messages, all flushed, the one of the given name with an owner that panics as it is dropped.
+fn with_loud(loud: u64, dropped: &Dropped) -> Connection {
+    let mut connection = connection();
+    for name in 0..40 {
+        if name == loud {
+            let owner = Loud(Watched::new(name, dropped));
+            assert_eq!(connection.write_owned(owner).expect("it is accepted").id, name);
+        } else {
+            write_watched(&mut connection, name, dropped);
+        }
+    }
+    let _ = connection.flush().expect("it is open");
+    connection
+}
+
+/// The bytes of those messages.
+const ALL: u64 = 39 * LARGE as u64 + 8;
+
 #[test]
 fn a_panic_as_an_owner_is_dropped_leaves_the_others() {
-    let dropped = Dropped::default();
-    let mut sends = connection();
-    let mut ends = connection();
-    for connection in [&mut sends, &mut ends] {
-        let _ = connection.write_owned(Loud(Watched::new(0, &dropped))).expect("it is accepted");
-        for name in 1..40 {
-            write_watched(connection, name, &dropped);
-        }
-        let _ = connection.flush().expect("it is open");
+    // the first of all, the oldest and the last of a segment, one in the middle, and the newest
+    for loud in [0, 1, 2, 9, 39] {
+        let dropped = Dropped::default();
+        let mut sends = with_loud(loud, &dropped);
+        assert!(catch_unwind(AssertUnwindSafe(|| sends.take_sent(ALL))).is_err());
+        assert_eq!(names(&dropped), (0..=loud).collect::<Vec<_>>());
+        // they are gone, and dropped by the next call
+        write_watched(&mut sends, 40, &dropped);
+        let _ = sends.flush().expect("it is open");
+        let _ = sends.take_sent(LARGE as u64).expect("it waits");
+        assert_eq!(names(&dropped), (loud + 1..=40).collect::<Vec<_>>());
+        let ends = with_loud(loud, &dropped);
+        assert!(catch_unwind(AssertUnwindSafe(|| drop(ends))).is_err());
+        assert_eq!(names(&dropped), (0..40).collect::<Vec<_>>());
     }
-    assert!(catch_unwind(AssertUnwindSafe(|| sends.take_sent(8 + LARGE as u64))).is_err());
-    assert_eq!(names(&dropped), [0]);
-    // they are gone, and dropped by the next call
-    let _ = sends.take_sent(LARGE as u64).expect("they wait");
-    assert_eq!(names(&dropped), [1, 2]);
-    assert!(catch_unwind(AssertUnwindSafe(|| drop(ends))).is_err());
-    assert_eq!(names(&dropped), (0..40).collect::<Vec<_>>());
+}
+
+#[test]
+fn a_panic_as_the_only_owner_is_dropped_leaves_room_for_the_next() {
+    let (mut connection, dropped) = (connection(), Dropped::default());
+    for name in 0..8 {
+        let owner = Loud(Watched::new(name, &dropped));
+        assert_eq!(connection.write_owned(owner).expect("it is accepted").id, name);
+        let _ = connection.flush().expect("it is open");
+        assert!(catch_unwind(AssertUnwindSafe(|| connection.take_sent(8))).is_err());
+        assert_eq!(names(&dropped), [name]);
+    }
+    write_watched(&mut connection, 8, &dropped);
+    let _ = connection.flush().expect("it is open");
+    let _ = connection.take_sent(LARGE as u64).expect("it waits");
+    assert_eq!(names(&dropped), [8]);
 }
 
 #[test]
