@@ -1,6 +1,6 @@
 //! Owners of bytes that messages are lent, oldest first. None moves while it is kept, so its bytes may lie in the owner itself.
 //!
-//! The `unsafe` here stands on this: the cells of a segment from `from` to `to` hold an owner each, the others nothing; and while
+//! The `unsafe` here stands on this: the cells of a segment from `oldest` to `next` hold an owner each, the others nothing; and while
 //! an owner is kept, no reference reaches into its room but the one that its bytes were asked of.
 
 use crate::replies::Refusal;
@@ -56,15 +56,18 @@ struct Cell {
 
 /// Memory for some owners.
 struct Segment {
+    /// Where its memory begins and ends.
     cells: NonNull<Cell>,
-    room: usize,
-    from: usize,
-    to: usize,
+    end: NonNull<Cell>,
+    /// The cells from the oldest to the next are held.
+    oldest: NonNull<Cell>,
+    next: NonNull<Cell>,
 }
 
 impl Default for Segment {
     fn default() -> Segment {
-        Segment { cells: NonNull::dangling(), room: 0, from: 0, to: 0 }
+        let none = NonNull::dangling();
+        Segment { cells: none, end: none, oldest: none, next: none }
     }
 }
 
@@ -73,67 +76,87 @@ impl Segment {
         let mut cells = Vec::new();
         cells.try_reserve_exact(count).map_err(|_| Refusal::NoMemory)?;
         let mut cells = ManuallyDrop::new(cells);
-        // SAFETY: a list's pointer is never null.
-        let at = unsafe { NonNull::new_unchecked(cells.as_mut_ptr()) };
-        Ok(Segment { cells: at, room: cells.capacity(), from: 0, to: 0 })
+        // SAFETY: a list's pointer is never null, and its memory ends behind its capacity.
+        let (at, end) = unsafe {
+            let at = NonNull::new_unchecked(cells.as_mut_ptr());
+            (at, at.add(cells.capacity()))
+        };
+        Ok(Segment { cells: at, end, oldest: at, next: at })
+    }
+
+    /// How many cells lie between two of its places.
+    fn between(from: NonNull<Cell>, to: NonNull<Cell>) -> usize {
+        // SAFETY: they are of one segment, and the second is not before the first.
+        unsafe { to.offset_from(from) as usize }
+    }
+
+    fn room(&self) -> usize {
+        Segment::between(self.cells, self.end)
+    }
+
+    fn count(&self) -> usize {
+        Segment::between(self.oldest, self.next)
+    }
+
+    /// How many came since its cells began anew.
+    fn came(&self) -> usize {
+        Segment::between(self.cells, self.next)
     }
 
     #[inline]
     fn is_empty(&self) -> bool {
-        self.from == self.to
-    }
-
-    fn count(&self) -> usize {
-        self.to - self.from
+        self.oldest == self.next
     }
 
     #[inline]
     fn is_full(&self) -> bool {
-        self.to == self.room
+        self.next == self.end
     }
 
-    /// Hands out the oldest. Without another the cells begin anew.
+    /// Has the cells begin anew. None may be held.
     #[inline]
-    fn pop(&mut self) -> Option<Kept> {
-        if self.is_empty() {
-            return None;
-        }
-        let cell = self.leave_oldest();
-        // SAFETY: this cell holds an owner, and counts as empty from now on.
-        let Cell { kept, .. } = unsafe { cell.read() };
-        Some(kept)
-    }
-
-    /// Drops the oldest where it lies.
-    #[inline]
-    fn drop_oldest(&mut self) {
-        if self.is_empty() {
-            return;
-        }
-        let cell = self.leave_oldest();
-        // SAFETY: this cell holds an owner, and counts as empty from now on, also if the drop panics. Nobody else has the segment
-        // meanwhile.
-        unsafe { (&raw mut (*cell.as_ptr()).kept).drop_in_place() };
-    }
-
-    /// The cell of the oldest, which counts as empty from now on.
-    #[inline]
-    fn leave_oldest(&mut self) -> NonNull<Cell> {
-        debug_assert!(!self.is_empty());
-        // SAFETY: it is one of these cells.
-        let cell = unsafe { self.cells.add(self.from) };
-        self.from += 1;
-        if self.is_empty() {
-            (self.from, self.to) = (0, 0);
-        }
-        cell
+    fn begin_anew(&mut self) {
+        debug_assert!(self.is_empty());
+        (self.oldest, self.next) = (self.cells, self.cells);
     }
 
     /// The last promise that has a part in the oldest.
     #[inline]
     fn last_of_oldest(&self) -> Option<u64> {
         // SAFETY: this cell holds an owner. Its room is not touched.
-        (!self.is_empty()).then(|| unsafe { (*self.cells.add(self.from).as_ptr()).last })
+        (!self.is_empty()).then(|| unsafe { (*self.oldest.as_ptr()).last })
+    }
+
+    /// The cell of the oldest, which counts as empty from now on.
+    #[inline]
+    fn leave_oldest(&mut self) -> NonNull<Cell> {
+        debug_assert!(!self.is_empty());
+        let cell = self.oldest;
+        // SAFETY: it is one of these cells.
+        self.oldest = unsafe { cell.add(1) };
+        cell
+    }
+
+    /// Hands out the oldest.
+    #[inline]
+    fn pop(&mut self) -> Option<Kept> {
+        if self.is_empty() {
+            return None;
+        }
+        let cell = self.leave_oldest();
+        // SAFETY: this cell held an owner, and counts as empty now.
+        let Cell { kept, .. } = unsafe { cell.read() };
+        Some(kept)
+    }
+
+    /// Drops those in which no message from this promise on has a part, where they lie.
+    #[inline]
+    fn drop_below(&mut self, end: u64) {
+        while self.last_of_oldest().is_some_and(|last| last < end) {
+            let cell = self.leave_oldest();
+            // SAFETY: this cell held an owner, and counts as empty now, also if the drop panics. Nobody else has the segment meanwhile.
+            unsafe { (&raw mut (*cell.as_ptr()).kept).drop_in_place() };
+        }
     }
 }
 
@@ -145,7 +168,7 @@ impl Drop for Segment {
             fn drop(&mut self) {
                 while self.0.pop().is_some() {}
                 // SAFETY: it is that of a list with this room, and nothing is left in it.
-                drop(unsafe { Vec::from_raw_parts(self.0.cells.as_ptr(), 0, self.0.room) });
+                drop(unsafe { Vec::from_raw_parts(self.0.cells.as_ptr(), 0, self.0.room()) });
             }
         }
         let rest = Rest(self);
@@ -155,12 +178,20 @@ impl Drop for Segment {
 }
 
 /// Owners, oldest first.
+///
+/// ```text
+///     first                  more                last
+///   [   | o | o | o ]     [ o | o | o ] ..     [ o | o |   |   ]
+///         the oldest                                     the next
+/// ```
 #[derive(Default)]
 pub(crate) struct Owners {
-    /// The oldest; none only if there are none at all.
-    front: Segment,
-    /// Those behind them, of which only the last segment may have none.
-    behind: VecDeque<Segment>,
+    /// The oldest, if segments lie before the last. Without any it has no memory.
+    first: Segment,
+    /// Those between them, all full.
+    more: VecDeque<Segment>,
+    /// The newest, and all while no segment lies before them.
+    last: Segment,
     /// How many came since there was none into segments that have none any more; and how many came in all before that, for which it
     /// makes room again.
     came: u32,
@@ -170,52 +201,80 @@ pub(crate) struct Owners {
 // SAFETY: it takes only what is `Send`.
 unsafe impl Send for Owners {}
 
+/// Owners of which some go. The others are in order afterwards, also if a drop panics.
+struct Ordered<'a>(&'a mut Owners);
+
+impl Drop for Ordered<'_> {
+    #[inline]
+    fn drop(&mut self) {
+        self.0.order();
+    }
+}
+
 impl Owners {
     #[inline]
     pub(crate) fn is_empty(&self) -> bool {
-        self.front.is_empty()
+        self.first.is_empty() && self.last.is_empty()
     }
 
     pub(crate) fn count(&self) -> usize {
-        self.front.count() + self.behind.iter().map(Segment::count).sum::<usize>()
+        self.first.count() + self.more.iter().map(Segment::count).sum::<usize>() + self.last.count()
+    }
+
+    /// The segment with the oldest.
+    #[inline]
+    fn front(&self) -> &Segment {
+        if self.first.is_empty() { &self.last } else { &self.first }
     }
 
     /// Whether no message from this promise on has a part in the oldest.
     #[inline]
     pub(crate) fn have_below(&self, end: u64) -> bool {
-        self.front.last_of_oldest().is_some_and(|last| last < end)
-    }
-
-    /// The segment that the next owner comes into, if it has room for it.
-    #[inline]
-    fn newest(&mut self) -> &mut Segment {
-        self.behind.back_mut().unwrap_or(&mut self.front)
+        self.front().last_of_oldest().is_some_and(|last| last < end)
     }
 
     /// Where one more stays if it is kept.
     #[inline]
     pub(crate) fn vacant(&mut self) -> Result<Vacant<'_>, Refusal> {
-        if self.newest().is_full() {
+        if self.last.is_full() {
             self.grow()?;
         }
-        let segment = self.newest();
-        // SAFETY: it is not full, so there is such a cell, and it holds nothing.
-        let cell = unsafe { segment.cells.add(segment.to) };
-        Ok(Vacant { cell, to: &mut segment.to })
+        Ok(Vacant { next: &mut self.last.next })
     }
 
     #[cold]
     fn grow(&mut self) -> Result<(), Refusal> {
-        if self.front.room == 0 {
+        let room = self.last.room();
+        if room == 0 {
             let again = take(&mut self.came_before) as usize;
-            self.front = Segment::with_room(FEW.max(again))?;
+            self.last = Segment::with_room(FEW.max(again))?;
             return Ok(());
         }
-        let room = (2 * self.newest().room).clamp(SOME, MANY);
-        let segment = Segment::with_room(room)?;
-        self.behind.try_reserve(1).map_err(|_| Refusal::NoMemory)?;
-        self.behind.push_back(segment);
+        let next = Segment::with_room((2 * room).clamp(SOME, MANY))?;
+        if self.first.is_empty() {
+            self.first = replace(&mut self.last, next);
+            return Ok(());
+        }
+        self.more.try_reserve(1).map_err(|_| Refusal::NoMemory)?;
+        self.more.push_back(replace(&mut self.last, next));
         Ok(())
+    }
+
+    /// Frees the first segment if none is left in it, and has the next in its place; if there is none at all, the cells of the last
+    /// begin anew.
+    #[inline]
+    fn order(&mut self) {
+        if !self.first.is_empty() {
+            return;
+        }
+        if self.first.room() > 0 {
+            self.came = self.came.saturating_add(self.first.came() as u32);
+            self.first = self.more.pop_front().unwrap_or_default();
+        }
+        if self.is_empty() {
+            self.came = self.came.saturating_add(self.last.came() as u32);
+            self.last.begin_anew();
+        }
     }
 
     /// Hands out the oldest if no message from this promise on has a part in it.
@@ -224,49 +283,30 @@ impl Owners {
         if !self.have_below(end) {
             return None;
         }
-        if self.front.count() > 1 {
-            return self.front.pop();
-        }
-        match self.next_in_front() {
-            Some(mut gone) => gone.pop(),
-            None => self.front.pop(),
-        }
+        let ordered = Ordered(self);
+        let Owners { first, last, .. } = &mut *ordered.0;
+        if first.is_empty() { last.pop() } else { first.pop() }
     }
 
     /// Drops those in which no message from this promise on has a part, where they lie. If a drop panics, the others are left.
     #[inline]
     pub(crate) fn drop_below(&mut self, end: u64) {
         while self.have_below(end) {
-            if self.front.count() > 1 {
-                self.front.drop_oldest();
-            } else {
-                self.drop_last_in_front();
-            }
+            let ordered = Ordered(self);
+            let Owners { first, last, .. } = &mut *ordered.0;
+            if first.is_empty() { last.drop_below(end) } else { first.drop_below(end) }
         }
-    }
-
-    /// Drops the only one in front.
-    #[inline(never)]
-    fn drop_last_in_front(&mut self) {
-        match self.next_in_front() {
-            Some(gone) => drop(gone),
-            None => self.front.drop_oldest(),
-        }
-    }
-
-    /// Hands out the segment in front, which is about to give away its last, if there is one to go on with.
-    fn next_in_front(&mut self) -> Option<Segment> {
-        self.came = self.came.saturating_add(self.front.to as u32);
-        let next = self.behind.pop_front()?;
-        Some(replace(&mut self.front, next))
     }
 
     /// Keeps room for few if there are none.
     #[inline]
     pub(crate) fn keep_few(&mut self) {
-        if self.front.room > FEW {
+        if !self.is_empty() {
+            return;
+        }
+        if self.last.room() > FEW {
             self.give_back();
-        } else if self.is_empty() {
+        } else {
             self.came = 0;
         }
     }
@@ -286,9 +326,8 @@ pub(crate) const fn fits<T>() -> bool {
 
 /// A cell behind all owners, which holds nothing.
 pub(crate) struct Vacant<'a> {
-    cell: NonNull<Cell>,
-    /// Up to where its segment has owners.
-    to: &'a mut usize,
+    /// Where its segment keeps which it is.
+    next: &'a mut NonNull<Cell>,
 }
 
 impl<'a> Vacant<'a> {
@@ -296,21 +335,42 @@ impl<'a> Vacant<'a> {
     #[inline]
     pub(crate) fn place<T: Send + 'static>(self, owner: T) -> Placed<'a, T> {
         assert!(fits::<T>());
-        let Vacant { cell, to } = self;
+        let (cell, next) = (*self.next, self.next);
         // SAFETY: the cell is there, and nothing else uses it. In its room is space for a `T`, at an address that suits one.
         unsafe {
-            (&raw mut (*cell.as_ptr()).kept.room).cast::<T>().write(owner);
+            write_by_words((&raw mut (*cell.as_ptr()).kept.room).cast::<T>(), owner);
             (&raw mut (*cell.as_ptr()).kept.drop).write(drop_in::<T>);
         }
-        Placed { cell, to, of: PhantomData }
+        Placed { cell, next, of: PhantomData }
+    }
+}
+
+/// Writes a value word by word if it has any. What was stored so a moment ago, as a `Bytes` that was cloned, is not at hand for a
+/// load of two words at once: the processor waits until the stores have reached its cache, some 15 cycles.
+///
+/// # Safety
+///
+/// A `T` may be written there.
+#[inline]
+unsafe fn write_by_words<T>(to: *mut T, value: T) {
+    if align_of::<T>() != align_of::<usize>() {
+        // SAFETY: the caller says so.
+        return unsafe { to.write(value) };
+    }
+    let value = ManuallyDrop::new(value);
+    let words = (&raw const value).cast::<MaybeUninit<usize>>();
+    for word in 0..size_of::<T>() / size_of::<usize>() {
+        // SAFETY: by its alignment it consists of so many words, and the caller says that it may be written there. A volatile load is
+        // not made one with the next.
+        unsafe { to.cast::<MaybeUninit<usize>>().add(word).write(words.add(word).read_volatile()) };
     }
 }
 
 /// An owner that lies where it stays if it is kept, and else is dropped.
 pub(crate) struct Placed<'a, T> {
     cell: NonNull<Cell>,
-    /// Up to where its segment has owners.
-    to: &'a mut usize,
+    /// The same, until it is kept.
+    next: &'a mut NonNull<Cell>,
     of: PhantomData<T>,
 }
 
@@ -334,9 +394,11 @@ impl<T> Placed<'_, T> {
     /// Keeps it under the last promise that has a part in it.
     #[inline]
     pub(crate) fn keep(self, last: u64) {
-        // SAFETY: the cell is there, and nothing else uses it.
-        unsafe { (&raw mut (*self.cell.as_ptr()).last).write(last) };
-        *self.to += 1;
+        // SAFETY: the cell is there, and nothing else uses it; behind it is another, or the end of its segment.
+        unsafe {
+            (&raw mut (*self.cell.as_ptr()).last).write(last);
+            *self.next = self.cell.add(1);
+        }
         forget(self);
     }
 
