@@ -4,6 +4,7 @@
 //! an owner is kept, no reference reaches into its room but the one that its bytes were asked of.
 
 use crate::replies::Refusal;
+use std::alloc::{Layout, alloc, dealloc};
 use std::collections::VecDeque;
 use std::marker::PhantomData;
 use std::mem::{ManuallyDrop, MaybeUninit, align_of, forget, replace, size_of, take};
@@ -72,16 +73,18 @@ impl Default for Segment {
 }
 
 impl Segment {
+    /// With room for *count*, which is not 0.
     fn with_room(count: usize) -> Result<Segment, Refusal> {
-        let mut cells = Vec::new();
-        cells.try_reserve_exact(count).map_err(|_| Refusal::NoMemory)?;
-        let mut cells = ManuallyDrop::new(cells);
-        // SAFETY: a list's pointer is never null, and its memory ends behind its capacity.
-        let (at, end) = unsafe {
-            let at = NonNull::new_unchecked(cells.as_mut_ptr());
-            (at, at.add(cells.capacity()))
-        };
-        Ok(Segment { cells: at, end, oldest: at, next: at })
+        // SAFETY: the layout has a size.
+        let cells = unsafe { alloc(Segment::layout_of(count)) };
+        let cells = NonNull::new(cells.cast()).ok_or(Refusal::NoMemory)?;
+        // SAFETY: the memory ends there.
+        let end = unsafe { cells.add(count) };
+        Ok(Segment { cells, end, oldest: cells, next: cells })
+    }
+
+    fn layout_of(count: usize) -> Layout {
+        Layout::array::<Cell>(count).expect("a segment is small")
     }
 
     /// How many cells lie between two of its places.
@@ -158,22 +161,30 @@ impl Segment {
             unsafe { (&raw mut (*cell.as_ptr()).kept).drop_in_place() };
         }
     }
+
+    /// Drops all that are left, also those behind one whose drop panics, and frees the memory.
+    #[cold]
+    fn drop_rest(&mut self) {
+        struct Rest(Segment);
+        impl Drop for Rest {
+            fn drop(&mut self) {
+                while self.0.pop().is_some() {}
+            }
+        }
+        let mut rest = Rest(take(self));
+        while rest.0.pop().is_some() {}
+    }
 }
 
 impl Drop for Segment {
+    #[inline]
     fn drop(&mut self) {
-        /// The owners that are left, and their memory.
-        struct Rest<'a>(&'a mut Segment);
-        impl Drop for Rest<'_> {
-            fn drop(&mut self) {
-                while self.0.pop().is_some() {}
-                // SAFETY: it is that of a list with this room, and nothing is left in it.
-                drop(unsafe { Vec::from_raw_parts(self.0.cells.as_ptr(), 0, self.0.room()) });
-            }
+        if !self.is_empty() {
+            self.drop_rest();
+        } else if self.room() > 0 {
+            // SAFETY: it is that of `with_room` with this count.
+            unsafe { dealloc(self.cells.as_ptr().cast(), Segment::layout_of(self.room())) };
         }
-        let rest = Rest(self);
-        // if a drop of the owner's panics, the others go with the guard
-        while rest.0.pop().is_some() {}
     }
 }
 
@@ -314,7 +325,11 @@ impl Owners {
     /// Keeps no room if there are none.
     pub(crate) fn give_back(&mut self) {
         if self.is_empty() {
-            *self = Owners { came_before: self.came.min(AGAIN), ..Owners::default() };
+            self.last = Segment::default();
+            if self.more.capacity() > 0 {
+                self.more = VecDeque::new();
+            }
+            self.came_before = take(&mut self.came).min(AGAIN);
         }
     }
 }
