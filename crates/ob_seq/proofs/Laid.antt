@@ -10,7 +10,7 @@ use Rattle.ob_seq.proofs.Words.{◌≡◌, ◌<◌, ◌≤◌, ◌+◌, ◌-◌,
 use Rattle.ob_seq.proofs.Words.{slice_set, refl, sym, ap, ◌∙◌, arith, append_assoc, append-nil, length-append, nat_tests, Entry}
 use Rattle.ob_seq.specs.Laid.{AreFull, AreInFront, AreLaid, IsFoundIn, Laid, capacity_of, entries_of, fronts, items_of, laid_of}
 use Rattle.ob_seq.specs.Laid.{segment_room}
-use Rattle.ob_seq.specs.Unsent.{HoldsLittleMore, grown_room, most_left_behind}
+use Rattle.ob_seq.specs.Unsent.{HoldsLittleMore, grown_room}
 use Rattle.ob_seq.specs.Lent.{with_entry}
 use Rattle.std.specs.VecDeque.{deque_with_item}
 use Rattle.ob_seq.specs.declared.entries.Entries.TheInside.{Inside}

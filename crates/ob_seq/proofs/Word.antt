@@ -1,5 +1,5 @@
 -- The word: its bits in binary, the mark, and both after one more command.
-use Rattle.std.proofs.Common.{add-one, bit_or, ◌%◌}
+use Rattle.std.proofs.Common.{add-one, bit_or}
 use Rattle.std.proofs.Math.Nat.{pow-suc, mul_assoc, mul_comm, mul-add, mul-zero}
 use Rattle.ob_seq.proofs.Words.{◌≡◌, ℕ, zero, suc, ◌+◌, ◌*◌, ◌^◌, ◌/◌, ◌<◌, Bool, false, refl, sym, ap, ◌∙◌, cond}
 use Rattle.ob_seq.proofs.Words.{arith, ltb, sum_by, nat_tests, range_with_len, bit_at, sum_by-cons, bit_at_lowest}

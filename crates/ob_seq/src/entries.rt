@@ -25,12 +25,14 @@ use std::mem;
 /// For how many entries a ring has room first.
 const FIRST_ROOM: usize = 4;
 
-/// For how many it has room next, before that doubles. Each growth costs as much as to write some ten messages.
-const SECOND_ROOM: usize = 32;
+/// For how many it has room next, and then. Rings up to the second are moved and freed whole: glibc keeps 1 KiB for the thread
+/// that asks next, without a lock. Larger ones grow where they lie, which costs as much as to write some ten messages.
+const SECOND_ROOM: usize = 16;
+const THIRD_ROOM: usize = 64;
 
 /// Entries, oldest first.
 ///
-/// While few wait they all lie in one ring, the last, which has room for 4, 32, 64 and then 128. Once it is full then, it becomes a
+/// While few wait they all lie in one ring, the last, which has room for 4, 16, 64 and then 128. Once it is full then, it becomes a
 /// segment in front, and so does each further one of 128 entries (8 KiB). So none is moved however many wait, and each segment is
 /// freed when its last entry is gone.
 ///
@@ -134,7 +136,7 @@ impl Entries {
         self.grow()
     }
 
-    /// Makes places for 4, 32, 64 or 128 if there are fewer than 128, and else for 128 more.
+    /// Makes places for 4, 16, 64 or 128 if there are fewer than 128, and else for 128 more.
     // It is rare: apart, a write saves no registers for it.
     #[cold]
     #[inline(never)]
@@ -150,6 +152,9 @@ impl Entries {
             return Ok(());
         }
         let count = self.last.len();
+        if count < SECOND_ROOM {
+            return move_to(&mut self.last, ring_room(count));
+        }
         if count < SEGMENT {
             return self.last.reserve_exact(ring_room(count) - count);
         }
@@ -306,7 +311,7 @@ impl Entries {
     }
 }
 
-/// How many places a full ring of `count` has once it grew: 4, 32, 64 or 128.
+/// How many places a full ring of `count` has once it grew: 4, 16, 64 or 128.
 fn ring_room(count: usize) -> usize
     requires { count < segment_room }
     ensures value { result ≡ ring_room count }
@@ -317,16 +322,31 @@ fn ring_room(count: usize) -> usize
         FIRST_ROOM
     } else if count < SECOND_ROOM {
         SECOND_ROOM
-    } else if count < 2 * SECOND_ROOM {
-        2 * SECOND_ROOM
+    } else if count < THIRD_ROOM {
+        THIRD_ROOM
     } else {
         SEGMENT
     }
 }
 
-/// Keeps room for twice as many as there are, and for `kept` at least.
-// An empty one stays in part, where it lies: most often it grows there again, and glibc keeps the pages in front of it. It is rare:
-// apart, a removal saves no registers for it.
+/// Moves entries to a ring with this room. If there is no memory for it, they stay where they are.
+fn move_to(ring: &mut VecDeque<Entry>, room: usize) -> Result<(), AllocError>
+    requires { deque_len ring.old ≤ room }
+    ensures items { OnOk result (ring.new.items ≡ ring.old.items) }
+    ensures room { OnOk result (deque_capacity ring.new ≡ room) }
+    ensures err { OnErr result (ring.new ≡ ring.old) }
+{
+    let mut moved = VecDeque::with_capacity(*ring.allocator(), room)?;
+    while let Some(entry) = ring.pop_front() {
+        moved.push_back_reserved(entry);
+    }
+    *ring = moved;
+    Ok(())
+}
+
+/// Keeps room for twice as many as there are, and for `kept` at least; of an empty one with few places nothing.
+// Of a larger one a part stays where it lies: most often it grows there again, and glibc keeps the pages in front of it. It is
+// rare: apart, a removal saves no registers for it.
 #[cold]
 #[inline(never)]
 fn keep_room(ring: &mut VecDeque<Entry>, kept: usize)
@@ -335,5 +355,9 @@ fn keep_room(ring: &mut VecDeque<Entry>, kept: usize)
     ensures less { deque_capacity ring.new ≤ deque_capacity ring.old }
     ensures none { kept ≡ 0 → deque_len ring.old ≡ 0 → deque_capacity ring.new ≡ 0 }
 {
+    if ring.is_empty() && ring.capacity() <= SECOND_ROOM {
+        *ring = without_memory(*ring.allocator());
+        return;
+    }
     ring.shrink_to(ring.len().saturating_mul(2).max(kept));
 }

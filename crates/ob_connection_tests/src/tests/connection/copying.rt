@@ -114,8 +114,8 @@ fn chunks_end_and_begin_where_messages_do(rt: HostRuntime) -> Result<(), Fail> {
 fn room_is_taken_in_few_steps_and_given_back(rt: HostRuntime) -> Result<(), Fail> {
     let mut connection = open(rt.alloc())?;
     let none = connection.room();
-    // 1, 5, 33, 65 and 129 messages wait
-    let mut rooms = [1, 4, 28, 32, 64];
+    // 1, 5, 17, 65 and 129 messages wait
+    let mut rooms = [1, 4, 12, 48, 64];
     for room in &mut rooms {
         for _ in 0..*room {
             let _written = connection
@@ -130,7 +130,7 @@ fn room_is_taken_in_few_steps_and_given_back(rt: HostRuntime) -> Result<(), Fail
     connection.shrink_to_fit();
     assert_eq!(rt;
         (none, rooms, kept, connection.room()),
-        (0, [4, 32, 64, 128, 256], 4, 0)
+        (0, [4, 16, 64, 128, 256], 4, 0)
     );
     drop(connection);
     Ok(())

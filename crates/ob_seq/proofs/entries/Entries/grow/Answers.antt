@@ -1,5 +1,5 @@
 use Rattle.std.specs.VecDeque.{deque_len}
-use Rattle.ob_seq.proofs.Words.{◌≡◌, ◌<◌, ◌≤◌, List, length, length-append, append-nil, ap, sym, ◌∙◌, arith, Entry, refl, nat_tests}
+use Rattle.ob_seq.proofs.Words.{◌≡◌, ◌<◌, ◌≤◌, List, length, length-append, append-nil, ap, sym, ◌∙◌, arith, Entry, nat_tests}
 use Rattle.ob_seq.specs.Laid.{Laid, entries_of, fronts, items_of, segment_room}
 use Rattle.ob_seq.proofs.Laid.{capacity_behind, entries_behind, full_behind, last_full, segment_more}
 use Rattle.ob_seq.proofs.entries.Entries.grow.Goals as goal
