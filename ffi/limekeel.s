@@ -4,7 +4,7 @@
 #
 # kit: rattle-kit-13f logic dac8208d650f15bf
 # proved: logic=proved functions=330 axioms=3 target=x86_64-unknown-linux-gnu cpu=x86-64-v2
-# sources: 21663cb24ab7f3390b723c43a6f5f10f916baa0d4906d8f88451d9b000492261 (ob_budget, ob_types, ob_seq, ob_connection, ob_covered, ob_lifecycle, ob_shared_connection, ob_c)
+# sources: 64c5a0e35e5a42446d75cf6386301466268f3c3a49cc7f6096da5a848c9ff4e2 (ob_budget, ob_types, ob_seq, ob_connection, ob_covered, ob_lifecycle, ob_shared_connection, ob_c)
 	.file	"rattle"
 	.section	".text.unlikely.ob_seq::walk::run_of","ax",@progbits
 	.p2align	6                               # -- Begin function ob_seq::walk::run_of
@@ -14797,14 +14797,18 @@
 	.cfi_def_cfa_offset 40
 	pushq	%rbx
 	.cfi_def_cfa_offset 48
-	subq	$96, %rsp
-	.cfi_def_cfa_offset 144
+	subq	$144, %rsp
+	.cfi_def_cfa_offset 192
 	.cfi_offset %rbx, -48
 	.cfi_offset %r12, -40
 	.cfi_offset %r13, -32
 	.cfi_offset %r14, -24
 	.cfi_offset %r15, -16
+	movq	%rdi, %rbx
 	movq	8(%rdi), %rax
+	testq	%rax, %rax
+	je	.Llimekeel_BB35_6
+# %bb.1:                                # %then.1
 	leaq	(%rax,%rax), %rcx
 	cmpq	%rcx, %rsi
 	cmovaq	%rsi, %rcx
@@ -14813,14 +14817,13 @@
 	cmovnsq	%rcx, %r15
 	cmpq	%r15, %rax
 	cmovbeq	%r15, %rax
-	cmpq	%rax, 16(%rdi)
-	jbe	.Llimekeel_BB35_9
-# %bb.1:                                # %join.3.i
-	movq	%rdi, %rbx
-	movq	32(%rdi), %rax
+	cmpq	%rax, 16(%rbx)
+	jbe	.Llimekeel_BB35_18
+# %bb.2:                                # %join.3.i
+	movq	32(%rbx), %rax
 	movq	%rax, 80(%rsp)
-	movups	(%rdi), %xmm0
-	movups	16(%rdi), %xmm1
+	movups	(%rbx), %xmm0
+	movups	16(%rbx), %xmm1
 	movaps	%xmm1, 64(%rsp)
 	movaps	%xmm0, 48(%rsp)
 	xorps	%xmm0, %xmm0
@@ -14835,10 +14838,7 @@
 	cmpq	%r15, %r12
 	cmovaq	%r12, %r15
 	cmpq	%r15, %r13
-	jbe	.Llimekeel_BB35_7
-# %bb.2:                                # %join.6.i.i.i.i.i
-	testq	%r15, %r15
-	je	.Llimekeel_BB35_6
+	jbe	.Llimekeel_BB35_5
 # %bb.3:                                # %join.9.i.i.i.i.i
 	movq	%r12, %rsi
 	shlq	$6, %rsi
@@ -14848,27 +14848,102 @@
 	movq	%r14, %rdi
 	callq	limekeel_realloc@PLT
 	testb	$1, %al
-	je	.Llimekeel_BB35_7
+	je	.Llimekeel_BB35_5
 # %bb.4:                                # %arm.2.i.i.i.i.i.i
 	movq	%rdx, %r14
-	jmp	.Llimekeel_BB35_8
-.Llimekeel_BB35_7:
+	movq	%r15, %r13
+.Llimekeel_BB35_5:                               # %"core::mem::replace_with::<#9732a05192d98515>.exit.i"
+	movq	%r14, (%rbx)
+	movq	%r12, 8(%rbx)
+	movq	%r13, 16(%rbx)
+	jmp	.Llimekeel_BB35_17
+.Llimekeel_BB35_6:                               # %else.2
+	cmpq	$17, 16(%rbx)
+	jb	.Llimekeel_BB35_11
+# %bb.7:                                # %then.4
+	cmpq	$3, %rsi
+	movl	$3, %r15d
+	cmovbq	%rsi, %r15
+	movq	32(%rbx), %rax
+	movq	%rax, 80(%rsp)
+	movups	(%rbx), %xmm0
+	movups	16(%rbx), %xmm1
+	movaps	%xmm1, 64(%rsp)
+	movaps	%xmm0, 48(%rsp)
+	xorps	%xmm0, %xmm0
+	movaps	%xmm0, 16(%rsp)
+	movq	$0, 32(%rsp)
+	leaq	16(%rsp), %rdi
+	leaq	48(%rsp), %rsi
+	callq	"std_alloc::vec::deque::VecDeque::into_vec::<#b7ffe1be842f416e>"
+	movq	16(%rsp), %r14
+	movq	24(%rsp), %r12
+	movq	32(%rsp), %r13
+	cmpq	%r15, %r12
+	cmovaq	%r12, %r15
+	cmpq	%r15, %r13
+	jbe	.Llimekeel_BB35_15
+# %bb.8:                                # %join.6.i.i.i.i.i23
+	testq	%r15, %r15
+	je	.Llimekeel_BB35_14
+# %bb.9:                                # %join.9.i.i.i.i.i25
+	movq	%r12, %rsi
+	shlq	$6, %rsi
+	movq	%r15, %rdx
+	shlq	$6, %rdx
+	movl	$8, %ecx
+	movq	%r14, %rdi
+	callq	limekeel_realloc@PLT
+	testb	$1, %al
+	je	.Llimekeel_BB35_15
+# %bb.10:                               # %arm.2.i.i.i.i.i.i31
+	movq	%rdx, %r14
+	jmp	.Llimekeel_BB35_16
+.Llimekeel_BB35_11:                              # %else.5
+	leaq	8(%rbx), %rax
+	movq	32(%rbx), %rcx
+	movq	%rcx, 128(%rsp)
+	movups	(%rbx), %xmm0
+	movups	16(%rbx), %xmm1
+	movaps	%xmm1, 112(%rsp)
+	movaps	%xmm0, 96(%rsp)
+	leaq	8(%rsp), %rcx
+	movq	%rcx, (%rbx)
+	xorps	%xmm0, %xmm0
+	movups	%xmm0, 16(%rax)
+	movups	%xmm0, (%rax)
+	movq	128(%rsp), %rax
+	movq	%rax, 80(%rsp)
+	movaps	96(%rsp), %xmm0
+	movaps	112(%rsp), %xmm1
+	movaps	%xmm1, 64(%rsp)
+	movaps	%xmm0, 48(%rsp)
+	leaq	48(%rsp), %rdi
+	callq	"std_alloc::vec::deque::VecDeque::clear::<#109ac622210428bc>"
+	cmpq	$0, 64(%rsp)
+	je	.Llimekeel_BB35_18
+# %bb.12:                               # %then.1.i.i.i.i
+	movq	48(%rsp), %rdi
+	callq	limekeel_dealloc@PLT
+	jmp	.Llimekeel_BB35_18
+.Llimekeel_BB35_15:
 	movq	%r13, %r15
-	jmp	.Llimekeel_BB35_8
-.Llimekeel_BB35_6:                               # %"core::mem::replace_with::<#41eff90b4edbc3aa>.exit.i.i.i.i.i"
+	jmp	.Llimekeel_BB35_16
+.Llimekeel_BB35_14:                              # %"core::mem::replace_with::<#41eff90b4edbc3aa>.exit.i.i.i.i.i33"
 	movq	%r14, %rdi
 	callq	limekeel_dealloc@PLT
 	leaq	8(%rsp), %r14
 	xorl	%r12d, %r12d
 	xorl	%r15d, %r15d
-.Llimekeel_BB35_8:                               # %"core::mem::replace_with::<#9732a05192d98515>.exit.i"
+.Llimekeel_BB35_16:                              # %"core::mem::replace_with::<#9732a05192d98515>.exit.i18"
 	movq	%r14, (%rbx)
 	movq	%r12, 8(%rbx)
 	movq	%r15, 16(%rbx)
+.Llimekeel_BB35_17:                              # %join.3
 	xorps	%xmm0, %xmm0
 	movups	%xmm0, 24(%rbx)
-.Llimekeel_BB35_9:                               # %"std_alloc::vec::deque::VecDeque::shrink_to::<#b7ffe1be842f416e>.exit"
-	addq	$96, %rsp
+.Llimekeel_BB35_18:                              # %join.3
+	addq	$144, %rsp
 	.cfi_def_cfa_offset 48
 	popq	%rbx
 	.cfi_def_cfa_offset 40
@@ -16054,23 +16129,18 @@
 .Llimekeel_BB40_10:                              # %join.3
 	movq	8(%rbx), %rax
 	cmpq	$127, %rax
-	ja	.Llimekeel_BB40_21
+	ja	.Llimekeel_BB40_37
 # %bb.11:                               # %then.9
-	movl	%eax, %ecx
-	andl	$64, %ecx
-	addq	$64, %rcx
-	cmpq	$32, %rax
-	movl	$32, %edx
-	cmovaeq	%rcx, %rdx
-	cmpq	$4, %rax
-	movl	$4, %r12d
-	cmovaeq	%rdx, %r12
-	subq	%rax, %r12
+	movl	$64, %r15d
+	cmpq	$3, %rax
+	jne	.Llimekeel_BB40_12
+.Llimekeel_BB40_15:                              # %then.13
+	subq	%rax, %r15
 	movq	16(%rbx), %rcx
 	subq	%rax, %rcx
-	cmpq	%rcx, %r12
-	jbe	.Llimekeel_BB40_24
-# %bb.12:                               # %join.3.i5
+	cmpq	%rcx, %r15
+	jbe	.Llimekeel_BB40_41
+# %bb.16:                               # %join.3.i8
 	movq	32(%rbx), %rax
 	movq	%rax, 32(%rsp)
 	movups	(%rbx), %xmm0
@@ -16084,44 +16154,44 @@
 	movq	%rsp, %rsi
 	callq	"std_alloc::vec::deque::VecDeque::into_vec::<#b7ffe1be842f416e>"
 	movq	48(%rsp), %r14
-	movq	56(%rsp), %r15
+	movq	56(%rsp), %r12
 	movq	64(%rsp), %r13
 	movq	%r13, %rax
-	subq	%r15, %rax
-	cmpq	%rax, %r12
-	jbe	.Llimekeel_BB40_13
-# %bb.14:                               # %join.3.i.i.i.i.i
+	subq	%r12, %rax
+	cmpq	%rax, %r15
+	jbe	.Llimekeel_BB40_17
+# %bb.18:                               # %join.3.i.i.i.i.i
 	movb	$1, %al
-	addq	%r15, %r12
-	jb	.Llimekeel_BB40_20
-# %bb.15:                               # %join.7.i.i.i.i.i
-	movq	%r12, %rcx
+	addq	%r12, %r15
+	jb	.Llimekeel_BB40_24
+# %bb.19:                               # %join.7.i.i.i.i.i
+	movq	%r15, %rcx
 	shrq	$57, %rcx
-	jne	.Llimekeel_BB40_20
-# %bb.16:                               # %join.3.i.i.i.i.i.i
+	jne	.Llimekeel_BB40_24
+# %bb.20:                               # %join.3.i.i.i.i.i.i
 	testq	%r13, %r13
-	je	.Llimekeel_BB40_18
-# %bb.17:                               # %then.1.i.i.i.i.i.i.i
-	movq	%r15, %rsi
+	je	.Llimekeel_BB40_22
+# %bb.21:                               # %then.1.i.i.i.i.i.i.i
+	movq	%r12, %rsi
 	shlq	$6, %rsi
-	movq	%r12, %rdx
+	movq	%r15, %rdx
 	shlq	$6, %rdx
 	movl	$8, %ecx
 	movq	%r14, %rdi
 	callq	limekeel_realloc@PLT
 	testb	$1, %al
 	movb	$1, %al
-	je	.Llimekeel_BB40_20
-	jmp	.Llimekeel_BB40_19
-.Llimekeel_BB40_21:                              # %join.11
+	je	.Llimekeel_BB40_24
+	jmp	.Llimekeel_BB40_23
+.Llimekeel_BB40_37:                              # %join.11
 	movl	$8192, %edi                     # imm = 0x2000
 	movl	$8, %esi
 	callq	limekeel_alloc@PLT
 	movq	%rax, %rcx
 	movb	$1, %al
 	testb	$1, %cl
-	je	.Llimekeel_BB40_25
-# %bb.22:                               # %arm.12
+	je	.Llimekeel_BB40_42
+# %bb.38:                               # %arm.16
 	leaq	40(%rbx), %rax
 	movq	32(%rbx), %rcx
 	movq	%rcx, 160(%rsp)
@@ -16155,11 +16225,94 @@
 	movq	%rsp, %rdi
 	callq	"std_alloc::vec::deque::VecDeque::clear::<#109ac622210428bc>"
 	cmpq	$0, 16(%rsp)
-	je	.Llimekeel_BB40_24
-# %bb.23:                               # %then.1.i.i.i.i
-	movq	(%rsp), %rdi
-	callq	limekeel_dealloc@PLT
-	jmp	.Llimekeel_BB40_24
+	jne	.Llimekeel_BB40_40
+	jmp	.Llimekeel_BB40_41
+.Llimekeel_BB40_12:                              # %else.2.i
+	movl	$4, %r14d
+	jbe	.Llimekeel_BB40_25
+# %bb.13:                               # %else.5.i
+	movl	$16, %r14d
+	cmpq	$16, %rax
+	jae	.Llimekeel_BB40_14
+.Llimekeel_BB40_25:                              # %join.15
+	movl	%r14d, %edi
+	shll	$6, %edi
+	movl	$8, %esi
+	callq	limekeel_alloc@PLT
+	movq	%rax, %rcx
+	movb	$1, %al
+	testb	$1, %cl
+	je	.Llimekeel_BB40_42
+# %bb.26:                               # %"std_alloc::vec::Vec::move_to::<#b7ffe1be842f416e>.exit.thread.i.i.i"
+	movq	8(%rbx), %rdi
+	testq	%rdi, %rdi
+	je	.Llimekeel_BB40_27
+# %bb.28:                               # %join.3.i.lr.ph.i
+	xorl	%eax, %eax
+	movq	%rdx, %rsi
+	xorl	%ecx, %ecx
+	jmp	.Llimekeel_BB40_29
+	.p2align	4
+.Llimekeel_BB40_34:                              # %join.3.i.i.i18
+                                        #   in Loop: Header=BB40_29 Depth=1
+	movq	%rax, %rdi
+	shlq	$6, %rdi
+	movups	(%r8), %xmm0
+	movups	16(%r8), %xmm1
+	movups	32(%r8), %xmm2
+	movups	48(%r8), %xmm3
+	movups	%xmm3, 48(%rdx,%rdi)
+	movups	%xmm2, 32(%rdx,%rdi)
+	movups	%xmm1, 16(%rdx,%rdi)
+	movups	%xmm0, (%rdx,%rdi)
+	incq	%rax
+.Llimekeel_BB40_35:                              # %"std_alloc::vec::deque::VecDeque::push_back_reserved::<#b7ffe1be842f416e>.exit.i"
+                                        #   in Loop: Header=BB40_29 Depth=1
+	incq	%rcx
+	movq	8(%rbx), %rdi
+	addq	$64, %rsi
+	testq	%rdi, %rdi
+	je	.Llimekeel_BB40_36
+.Llimekeel_BB40_29:                              # %join.3.i.i
+                                        # =>This Inner Loop Header: Depth=1
+	cmpq	%rdi, 32(%rbx)
+	jne	.Llimekeel_BB40_30
+# %bb.31:                               # %then.1.i.i.i24
+                                        #   in Loop: Header=BB40_29 Depth=1
+	movq	$0, 32(%rbx)
+	xorl	%r8d, %r8d
+	jmp	.Llimekeel_BB40_32
+	.p2align	4
+.Llimekeel_BB40_30:                              # %start.join.3_crit_edge.i.i.i
+                                        #   in Loop: Header=BB40_29 Depth=1
+	movq	24(%rbx), %r8
+.Llimekeel_BB40_32:                              # %arm.8.i
+                                        #   in Loop: Header=BB40_29 Depth=1
+	leaq	1(%r8), %r9
+	movq	%r9, 24(%rbx)
+	decq	%rdi
+	movq	%rdi, 8(%rbx)
+	shlq	$6, %r8
+	addq	(%rbx), %r8
+	movq	%rcx, %rdi
+	subq	%rax, %rdi
+	cmpq	%r14, %rdi
+	jae	.Llimekeel_BB40_34
+# %bb.33:                               # %then.1.i.i3.i
+                                        #   in Loop: Header=BB40_29 Depth=1
+	movq	%rax, %rdi
+	shlq	$6, %rdi
+	movq	%rsi, %r9
+	subq	%rdi, %r9
+	movups	(%r8), %xmm0
+	movups	16(%r8), %xmm1
+	movups	32(%r8), %xmm2
+	movups	48(%r8), %xmm3
+	movups	%xmm3, 48(%r9)
+	movups	%xmm2, 32(%r9)
+	movups	%xmm1, 16(%r9)
+	movups	%xmm0, (%r9)
+	jmp	.Llimekeel_BB40_35
 .Llimekeel_BB40_7:                               # %join.3.i.i.i
 	leaq	(%rdx,%rdx,4), %rsi
 	movq	32(%rsp), %rdi
@@ -16173,18 +16326,21 @@
 .Llimekeel_BB40_8:                               # %"ob_seq::entries::segments::add_segment.exit"
 	incq	%rax
 	movq	%rax, 88(%rbx)
-.Llimekeel_BB40_24:                              # %"std_alloc::vec::deque::VecDeque::drop::<#dc66f5bf009424cc>.exit"
+	jmp	.Llimekeel_BB40_41
+.Llimekeel_BB40_17:
 	xorl	%eax, %eax
-	jmp	.Llimekeel_BB40_25
-.Llimekeel_BB40_13:
-	xorl	%eax, %eax
-.Llimekeel_BB40_20:                              # %"core::mem::replace_with::<#918dc7593e202a59>.exit.i"
+.Llimekeel_BB40_24:                              # %"core::mem::replace_with::<#918dc7593e202a59>.exit.i"
 	movq	%r14, (%rbx)
-	movq	%r15, 8(%rbx)
+	movq	%r12, 8(%rbx)
 	movq	%r13, 16(%rbx)
 	xorps	%xmm0, %xmm0
 	movups	%xmm0, 24(%rbx)
-	jmp	.Llimekeel_BB40_25
+	jmp	.Llimekeel_BB40_42
+.Llimekeel_BB40_14:
+	movl	%eax, %r15d
+	andl	$64, %r15d
+	addq	$64, %r15
+	jmp	.Llimekeel_BB40_15
 .Llimekeel_BB40_3:                               # %"std_alloc::vec::deque::VecDeque::reserve::<#fef179f464dd0fc0>.exit.i"
 	leaq	80(%rbx), %rdi
 	callq	"std_alloc::vec::deque::VecDeque::grow::<#fef179f464dd0fc0>"
@@ -16192,7 +16348,32 @@
 	jne	.Llimekeel_BB40_4
 .Llimekeel_BB40_9:                               # %arm.5
 	movb	$1, %al
-.Llimekeel_BB40_25:                              # %return.8
+	jmp	.Llimekeel_BB40_42
+.Llimekeel_BB40_27:
+	xorl	%ecx, %ecx
+	xorl	%eax, %eax
+.Llimekeel_BB40_36:                              # %after.6.i
+	movq	32(%rbx), %rsi
+	movq	%rsi, 32(%rsp)
+	movups	(%rbx), %xmm0
+	movups	16(%rbx), %xmm1
+	movaps	%xmm1, 16(%rsp)
+	movaps	%xmm0, (%rsp)
+	movq	%rdx, (%rbx)
+	movq	%rcx, 8(%rbx)
+	movq	%r14, 16(%rbx)
+	movq	$0, 24(%rbx)
+	movq	%rax, 32(%rbx)
+	movq	%rsp, %rdi
+	callq	"std_alloc::vec::deque::VecDeque::clear::<#109ac622210428bc>"
+	cmpq	$0, 16(%rsp)
+	je	.Llimekeel_BB40_41
+.Llimekeel_BB40_40:                              # %then.1.i.i.i.i
+	movq	(%rsp), %rdi
+	callq	limekeel_dealloc@PLT
+.Llimekeel_BB40_41:                              # %"std_alloc::vec::deque::VecDeque::drop::<#dc66f5bf009424cc>.exit"
+	xorl	%eax, %eax
+.Llimekeel_BB40_42:                              # %return.8
                                         # kill: def $al killed $al killed $eax
 	addq	$176, %rsp
 	.cfi_def_cfa_offset 48
@@ -16207,23 +16388,23 @@
 	popq	%r15
 	.cfi_def_cfa_offset 8
 	retq
-.Llimekeel_BB40_18:                              # %"std_alloc::vec::resize::<#b7ffe1be842f416e>.exit.i.i.i.i.i.i"
+.Llimekeel_BB40_22:                              # %"std_alloc::vec::resize::<#b7ffe1be842f416e>.exit.i.i.i.i.i.i"
 	.cfi_def_cfa_offset 224
-	movq	%r12, %rdi
+	movq	%r15, %rdi
 	shlq	$6, %rdi
 	movl	$8, %esi
 	callq	limekeel_alloc@PLT
 	testb	$1, %al
-	je	.Llimekeel_BB40_26
-.Llimekeel_BB40_19:
+	je	.Llimekeel_BB40_43
+.Llimekeel_BB40_23:
 	movq	%rdx, %r14
 	xorl	%eax, %eax
-	movq	%r12, %r13
-	jmp	.Llimekeel_BB40_20
-.Llimekeel_BB40_26:
+	movq	%r15, %r13
+	jmp	.Llimekeel_BB40_24
+.Llimekeel_BB40_43:
 	xorl	%r13d, %r13d
 	movb	$1, %al
-	jmp	.Llimekeel_BB40_20
+	jmp	.Llimekeel_BB40_24
 .Llimekeel_func_end40:
 	.size	"ob_seq::entries::Entries::grow", .Llimekeel_func_end40-"ob_seq::entries::Entries::grow"
 	.cfi_endproc

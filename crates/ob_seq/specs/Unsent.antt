@@ -1,5 +1,5 @@
 -- What waits to be sent, each message with its promise, and for how many messages there is room.
-use Rattle.std.specs.Prelude.{ℕ, ◌+◌, Bool, false, List, [], ◌++◌, length, map, if◌then◌else◌, ◌≡◌, ◌≤◌, true, nat_lt}
+use Rattle.std.specs.Prelude.{ℕ, ◌+◌, Bool, false, List, [], ◌++◌, length, map, if◌then◌else◌, ◌≡◌, ◌≤◌, true, ◌==◌, nat_lt}
 use Rattle.ob_types.specs.Marks.{Marks}
 use Rattle.ob_types.specs.declared.promise.Outcome.{Outcome}
 use Rattle.ob_types.specs.declared.promise.Outcome.TheVariants.{Cancelled}
@@ -90,9 +90,16 @@ ended outcome entry = if entry.taken_back then Cancelled else outcome
 abbrev pub spares : Unsent → Bool
 spares unsent = nat_lt (waiting_count unsent) unsent.room
 
--- the room for one more than *n* that are fewer than 128: the least of 4, 16, 64 and 128 that is above *n*
+-- how many places a ring for more than 16 leaves when it gives room back: as many messages as came are likely to come again
+abbrev pub left_room : ℕ
+left_room = 3
+
+-- the room for one more than *n* that are fewer than 128 and fill their ring: 64 if that was left by a larger one, and else the
+-- least of 4, 16, 64 and 128 that is above *n*
 abbrev pub ring_room : ℕ → ℕ
-ring_room count = if nat_lt count 4 then 4 else if nat_lt count 16 then 16 else if nat_lt count 64 then 64 else 128
+ring_room count =
+    if count == left_room then 64
+    else if nat_lt count 4 then 4 else if nat_lt count 16 then 16 else if nat_lt count 64 then 64 else 128
 
 -- the room for one more than these, if there was room for *n*: as much if one place is to spare, else that of a ring for fewer
 -- than 128, and for 128 more of others

@@ -25,10 +25,16 @@ use std::mem;
 /// For how many entries a ring has room first.
 const FIRST_ROOM: usize = 4;
 
-/// For how many it has room next, and then. Rings up to the second are moved and freed whole: glibc keeps 1 KiB for the thread
-/// that asks next, without a lock. Larger ones grow where they lie, which costs as much as to write some ten messages.
+/// For how many it has room next. Rings of at most as many are moved and freed whole: glibc keeps 1 KiB for the thread that asks
+/// next, without a lock.
 const SECOND_ROOM: usize = 16;
+
+/// For how many it has room then. A larger ring grows where it lies, which costs as much as to write some ten messages.
 const THIRD_ROOM: usize = 64;
+
+/// How many places such a ring leaves when it gives room back. They tell it from one that had few: it grows at once, since as many
+/// are likely to come again.
+const LEFT_ROOM: usize = 3;
 
 /// Entries, oldest first.
 ///
@@ -136,7 +142,7 @@ impl Entries {
         self.grow()
     }
 
-    /// Makes places for 4, 16, 64 or 128 if there are fewer than 128, and else for 128 more.
+    /// Makes places for 4, 16, 64 or 128 if there are fewer than 128, and else for 128 more. For 64 if 3 were left of as many.
     // It is rare: apart, a write saves no registers for it.
     #[cold]
     #[inline(never)]
@@ -152,11 +158,11 @@ impl Entries {
             return Ok(());
         }
         let count = self.last.len();
-        if count < SECOND_ROOM {
-            return move_to(&mut self.last, ring_room(count));
-        }
         if count < SEGMENT {
-            return self.last.reserve_exact(ring_room(count) - count);
+            return match ring_room(count) {
+                room if room > SECOND_ROOM => self.last.reserve_exact(room - count),
+                room => move_to(&mut self.last, room),
+            };
         }
         let empty = VecDeque::with_capacity(*self.last.allocator(), SEGMENT)?;
         self.first = mem::replace(&mut self.last, empty);
@@ -311,14 +317,16 @@ impl Entries {
     }
 }
 
-/// How many places a full ring of `count` has once it grew: 4, 16, 64 or 128.
+/// How many places a full ring of `count` has once it grew: 4, 16, 64 or 128, and 64 if it was left by a larger one.
 fn ring_room(count: usize) -> usize
     requires { count < segment_room }
     ensures value { result ≡ ring_room count }
     ensures more { count < result }
     ensures few { result ≤ segment_room }
 {
-    if count < FIRST_ROOM {
+    if count == LEFT_ROOM {
+        THIRD_ROOM
+    } else if count < FIRST_ROOM {
         FIRST_ROOM
     } else if count < SECOND_ROOM {
         SECOND_ROOM
@@ -344,9 +352,10 @@ fn move_to(ring: &mut VecDeque<Entry>, room: usize) -> Result<(), AllocError>
     Ok(())
 }
 
-/// Keeps room for twice as many as there are, and for `kept` at least; of an empty one with few places nothing.
-// Of a larger one a part stays where it lies: most often it grows there again, and glibc keeps the pages in front of it. It is
-// rare: apart, a removal saves no registers for it.
+/// Keeps room for twice as many as there are, and for `kept` at least. But a ring that is empty goes if it had room for 16, and
+/// leaves 3 places at most if it had room for more.
+// These stay where they lie: most often it grows there again, and glibc keeps the pages in front of it. It is rare: apart, a
+// removal saves no registers for it.
 #[cold]
 #[inline(never)]
 fn keep_room(ring: &mut VecDeque<Entry>, kept: usize)
@@ -355,9 +364,12 @@ fn keep_room(ring: &mut VecDeque<Entry>, kept: usize)
     ensures less { deque_capacity ring.new ≤ deque_capacity ring.old }
     ensures none { kept ≡ 0 → deque_len ring.old ≡ 0 → deque_capacity ring.new ≡ 0 }
 {
-    if ring.is_empty() && ring.capacity() <= SECOND_ROOM {
+    let count = ring.len();
+    if count > 0 {
+        ring.shrink_to(count.saturating_mul(2).max(kept));
+    } else if ring.capacity() > SECOND_ROOM {
+        ring.shrink_to(kept.min(LEFT_ROOM));
+    } else {
         *ring = without_memory(*ring.allocator());
-        return;
     }
-    ring.shrink_to(ring.len().saturating_mul(2).max(kept));
 }

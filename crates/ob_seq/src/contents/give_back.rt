@@ -9,8 +9,9 @@ const KEPT_ROOM: usize = 4;
 
 impl Contents {
     /// Gives memory back if little of it is used: if all entries lie in one ring that has room for more than 4, and at most an
-    /// eighth of that is used, it keeps room for twice as many as there are, and for 4 at least. Once it is closed it keeps
-    /// none. It cannot fail: if the allocator refuses the smaller ring, the entries keep the one that they have.
+    /// eighth of that is used, it keeps room for twice as many as there are, and for 4 at least. If none is left it keeps none of
+    /// 16 and 3 of more. Once it is closed it keeps none. It cannot fail: if the allocator refuses the smaller ring, the entries
+    /// keep the one that they have.
     ///
     /// A ring with as many entries as half its room gives nothing back until three quarters of them are gone, and one that gave
     /// back and has *n* entries has places for *n* more at least; so each entry is moved a few times at most.

@@ -110,6 +110,23 @@ fn chunks_end_and_begin_where_messages_do(rt: HostRuntime) -> Result<(), Fail> {
     Ok(())
 }
 
+/// Writes *n* messages without a byte, and returns the room then.
+fn room_after(connection: &mut Connection, n: usize) -> Result<usize, Fail> {
+    for _ in 0..n {
+        let _written = connection
+            .write(Message::Block(Bytes::new()))
+            .map_err(Refusal::from)?;
+    }
+    Ok(connection.room())
+}
+
+/// Sends all, and returns the room that is left.
+fn room_left(connection: &mut Connection) -> Result<usize, Fail> {
+    let _flushed = connection.flush()?;
+    let _taken = connection.take_sent(0)?;
+    Ok(connection.room())
+}
+
 #[test]
 fn room_is_taken_in_few_steps_and_given_back(rt: HostRuntime) -> Result<(), Fail> {
     let mut connection = open(rt.alloc())?;
@@ -117,21 +134,27 @@ fn room_is_taken_in_few_steps_and_given_back(rt: HostRuntime) -> Result<(), Fail
     // 1, 5, 17, 65 and 129 messages wait
     let mut rooms = [1, 4, 12, 48, 64];
     for room in &mut rooms {
-        for _ in 0..*room {
-            let _written = connection
-                .write(Message::Block(Bytes::new()))
-                .map_err(Refusal::from)?;
-        }
-        *room = connection.room();
+        *room = room_after(&mut connection, *room)?;
     }
-    let _flushed = connection.flush()?;
-    let _taken = connection.take_sent(0)?;
-    let kept = connection.room();
+    let left = room_left(&mut connection)?;
+    // many came, so it makes room for many once the few places are full
+    let again = [room_after(&mut connection, 3)?, room_after(&mut connection, 1)?];
+    let left_again = room_left(&mut connection)?;
     connection.shrink_to_fit();
     assert_eq!(rt;
-        (none, rooms, kept, connection.room()),
-        (0, [4, 16, 64, 128, 256], 4, 0)
+        (none, rooms, left, again, left_again, connection.room()),
+        (0, [4, 16, 64, 128, 256], 3, [3, 64], 3, 0)
     );
+    drop(connection);
+    Ok(())
+}
+
+#[test]
+fn of_few_places_all_or_none_are_kept(rt: HostRuntime) -> Result<(), Fail> {
+    let mut connection = open(rt.alloc())?;
+    let four = (room_after(&mut connection, 4)?, room_left(&mut connection)?);
+    let five = (room_after(&mut connection, 5)?, room_left(&mut connection)?);
+    assert_eq!(rt; (four, five), ((4, 4), (16, 0)));
     drop(connection);
     Ok(())
 }
