@@ -138,7 +138,10 @@ fn room_is_taken_in_few_steps_and_given_back(rt: HostRuntime) -> Result<(), Fail
     }
     let left = room_left(&mut connection)?;
     // many came, so it makes room for many once the few places are full
-    let again = [room_after(&mut connection, 3)?, room_after(&mut connection, 1)?];
+    let again = [
+        room_after(&mut connection, 3)?,
+        room_after(&mut connection, 1)?,
+    ];
     let left_again = room_left(&mut connection)?;
     connection.shrink_to_fit();
     assert_eq!(rt;
