@@ -191,16 +191,14 @@ impl Drop for Segment {
 /// Owners, oldest first.
 ///
 /// ```text
-///     first                  more                last
+///     ahead                                      last
 ///   [   | o | o | o ]     [ o | o | o ] ..     [ o | o |   |   ]
 ///         the oldest                                     the next
 /// ```
 #[derive(Default)]
 pub(crate) struct Owners {
-    /// The oldest, if segments lie before the last. Without any it has no memory.
-    first: Segment,
-    /// Those between them, all full.
-    more: VecDeque<Segment>,
+    /// The segments before the last. Each has some.
+    ahead: VecDeque<Segment>,
     /// The newest, and all while no segment lies before them.
     last: Segment,
     /// How many came since there was none into segments that have none any more; and how many came in all before that, for which it
@@ -225,23 +223,24 @@ impl Drop for Ordered<'_> {
 impl Owners {
     #[inline]
     pub(crate) fn is_empty(&self) -> bool {
-        self.first.is_empty() && self.last.is_empty()
+        self.ahead.is_empty() && self.last.is_empty()
     }
 
     pub(crate) fn count(&self) -> usize {
-        self.first.count() + self.more.iter().map(Segment::count).sum::<usize>() + self.last.count()
+        self.ahead.iter().map(Segment::count).sum::<usize>() + self.last.count()
     }
 
     /// The segment with the oldest.
     #[inline]
-    fn front(&self) -> &Segment {
-        if self.first.is_empty() { &self.last } else { &self.first }
+    fn front(&mut self) -> &mut Segment {
+        self.ahead.front_mut().unwrap_or(&mut self.last)
     }
 
     /// Whether no message from this promise on has a part in the oldest.
     #[inline]
     pub(crate) fn have_below(&self, end: u64) -> bool {
-        self.front().last_of_oldest().is_some_and(|last| last < end)
+        let front = self.ahead.front().unwrap_or(&self.last);
+        front.last_of_oldest().is_some_and(|last| last < end)
     }
 
     /// Where one more stays if it is kept.
@@ -262,25 +261,20 @@ impl Owners {
             return Ok(());
         }
         let next = Segment::with_room((2 * room).clamp(SOME, MANY))?;
-        if self.first.is_empty() {
-            self.first = replace(&mut self.last, next);
-            return Ok(());
-        }
-        self.more.try_reserve(1).map_err(|_| Refusal::NoMemory)?;
-        self.more.push_back(replace(&mut self.last, next));
+        self.ahead.try_reserve(1).map_err(|_| Refusal::NoMemory)?;
+        self.ahead.push_back(replace(&mut self.last, next));
         Ok(())
     }
 
-    /// Frees the first segment if none is left in it, and has the next in its place; if there is none at all, the cells of the last
-    /// begin anew.
+    /// Frees the first segment ahead if none is left in it; if there is none at all, the cells of the last begin anew.
     #[inline]
     fn order(&mut self) {
-        if !self.first.is_empty() {
-            return;
-        }
-        if self.first.room() > 0 {
-            self.came = self.came.saturating_add(self.first.came() as u32);
-            self.first = self.more.pop_front().unwrap_or_default();
+        if let Some(first) = self.ahead.front() {
+            if !first.is_empty() {
+                return;
+            }
+            self.came = self.came.saturating_add(first.came() as u32);
+            self.ahead.pop_front();
         }
         if self.is_empty() {
             self.came = self.came.saturating_add(self.last.came() as u32);
@@ -295,8 +289,7 @@ impl Owners {
             return None;
         }
         let ordered = Ordered(self);
-        let Owners { first, last, .. } = &mut *ordered.0;
-        if first.is_empty() { last.pop() } else { first.pop() }
+        ordered.0.front().pop()
     }
 
     /// Drops those in which no message from this promise on has a part, where they lie. If a drop panics, the others are left.
@@ -304,8 +297,7 @@ impl Owners {
     pub(crate) fn drop_below(&mut self, end: u64) {
         while self.have_below(end) {
             let ordered = Ordered(self);
-            let Owners { first, last, .. } = &mut *ordered.0;
-            if first.is_empty() { last.drop_below(end) } else { first.drop_below(end) }
+            ordered.0.front().drop_below(end);
         }
     }
 
@@ -326,8 +318,8 @@ impl Owners {
     pub(crate) fn give_back(&mut self) {
         if self.is_empty() {
             self.last = Segment::default();
-            if self.more.capacity() > 0 {
-                self.more = VecDeque::new();
+            if self.ahead.capacity() > 0 {
+                self.ahead = VecDeque::new();
             }
             self.came_before = take(&mut self.came).min(AGAIN);
         }
