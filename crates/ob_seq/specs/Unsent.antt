@@ -94,12 +94,13 @@ spares unsent = nat_lt (waiting_count unsent) unsent.room
 abbrev pub left_room : ℕ
 left_room = 3
 
--- the room for one more than *n* that are fewer than 128 and fill their ring: 64 if that was left by a larger one, and else the
--- least of 4, 16, 64 and 128 that is above *n*
+-- the room for one more than *n* that are fewer than 128 and fill their ring: 32 if that was left by a larger one, and else the
+-- least of 4, 16, 32, 64 and 128 that is above *n*
 abbrev pub ring_room : ℕ → ℕ
 ring_room count =
-    if count == left_room then 64
-    else if nat_lt count 4 then 4 else if nat_lt count 16 then 16 else if nat_lt count 64 then 64 else 128
+    if count == left_room then 32
+    else if nat_lt count 4 then 4 else if nat_lt count 16 then 16 else if nat_lt count 32 then 32
+    else if nat_lt count 64 then 64 else 128
 
 -- the room for one more than these, if there was room for *n*: as much if one place is to spare, else that of a ring for fewer
 -- than 128, and for 128 more of others

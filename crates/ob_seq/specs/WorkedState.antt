@@ -79,8 +79,8 @@ WantsOfMemory =
 -- the room for one more than these numbers of messages that have no place to spare
 abbrev pub RoomsAsTheyGrow : Type 0
 RoomsAsTheyGrow =
-    map (λ full. grown_room full full) (0 ∷ 2 ∷ 3 ∷ 4 ∷ 15 ∷ 16 ∷ 63 ∷ 64 ∷ 127 ∷ 128 ∷ 300 ∷ [])
-    ≡ 4 ∷ 4 ∷ 64 ∷ 16 ∷ 16 ∷ 64 ∷ 64 ∷ 128 ∷ 128 ∷ 256 ∷ 428 ∷ []
+    map (λ full. grown_room full full) (0 ∷ 2 ∷ 3 ∷ 4 ∷ 15 ∷ 16 ∷ 31 ∷ 32 ∷ 63 ∷ 64 ∷ 127 ∷ 128 ∷ 300 ∷ [])
+    ≡ 4 ∷ 4 ∷ 32 ∷ 16 ∷ 16 ∷ 32 ∷ 32 ∷ 64 ∷ 64 ∷ 128 ∷ 128 ∷ 256 ∷ 428 ∷ []
 
 -- a writable buffer at the low mark and at the high mark: the next byte above high makes it unwritable
 abbrev pub WritableAtTheMarks : Type 0

@@ -29,8 +29,9 @@ const FIRST_ROOM: usize = 4;
 /// next, without a lock.
 const SECOND_ROOM: usize = 16;
 
-/// For how many it has room then. A larger ring grows where it lies, which costs as much as to write some ten messages.
-const THIRD_ROOM: usize = 64;
+/// For how many it has room then, before that doubles. A larger ring grows where it lies, which costs as much as to write some ten
+/// messages.
+const THIRD_ROOM: usize = 32;
 
 /// How many places such a ring leaves when it gives room back. They tell it from one that had few: it grows at once, since as many
 /// are likely to come again.
@@ -38,7 +39,7 @@ const LEFT_ROOM: usize = 3;
 
 /// Entries, oldest first.
 ///
-/// While few wait they all lie in one ring, the last, which has room for 4, 16, 64 and then 128. Once it is full then, it becomes a
+/// While few wait they all lie in one ring, the last, which has room for 4, 16, 32, 64 and then 128. Once it is full then, it becomes a
 /// segment in front, and so does each further one of 128 entries (8 KiB). So none is moved however many wait, and each segment is
 /// freed when its last entry is gone.
 ///
@@ -142,7 +143,7 @@ impl Entries {
         self.grow()
     }
 
-    /// Makes places for 4, 16, 64 or 128 if there are fewer than 128, and else for 128 more. For 64 if 3 were left of as many.
+    /// Makes places for 4, 16, 32, 64 or 128 if there are fewer than 128, and else for 128 more. For 32 if 3 were left of as many.
     // It is rare: apart, a write saves no registers for it.
     #[cold]
     #[inline(never)]
@@ -317,7 +318,7 @@ impl Entries {
     }
 }
 
-/// How many places a full ring of `count` has once it grew: 4, 16, 64 or 128, and 64 if it was left by a larger one.
+/// How many places a full ring of `count` has once it grew: 4, 16, 32, 64 or 128, and 32 if it was left by a larger one.
 fn ring_room(count: usize) -> usize
     requires { count < segment_room }
     ensures value { result ≡ ring_room count }
@@ -332,6 +333,8 @@ fn ring_room(count: usize) -> usize
         SECOND_ROOM
     } else if count < THIRD_ROOM {
         THIRD_ROOM
+    } else if count < 2 * THIRD_ROOM {
+        2 * THIRD_ROOM
     } else {
         SEGMENT
     }

@@ -61,8 +61,8 @@ impl Connection {
     }
 
     /// How many messages may wait before memory is taken for one more. A message takes one place of 64 bytes as long as it
-    /// waits. A write takes memory for places only if none is left: for the next of 4, 16, 64 and 128 in all, for 64 if the 3 that
-    /// many left are full, or for 128 more if as many wait. It does not allocate. Our own.
+    /// waits. A write takes memory for places only if none is left: for the next of 4, 16, 32, 64 and 128 in all, for 32 if the 3
+    /// that many left are full, or for 128 more if as many wait. It does not allocate. Our own.
     pub fn room(&self) -> usize
         ensures { result ≡ room_in self.now }
     {

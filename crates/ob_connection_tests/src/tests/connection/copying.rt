@@ -131,8 +131,8 @@ fn room_left(connection: &mut Connection) -> Result<usize, Fail> {
 fn room_is_taken_in_few_steps_and_given_back(rt: HostRuntime) -> Result<(), Fail> {
     let mut connection = open(rt.alloc())?;
     let none = connection.room();
-    // 1, 5, 17, 65 and 129 messages wait
-    let mut rooms = [1, 4, 12, 48, 64];
+    // 1, 5, 17, 33, 65 and 129 messages wait
+    let mut rooms = [1, 4, 12, 16, 32, 64];
     for room in &mut rooms {
         *room = room_after(&mut connection, *room)?;
     }
@@ -146,7 +146,7 @@ fn room_is_taken_in_few_steps_and_given_back(rt: HostRuntime) -> Result<(), Fail
     connection.shrink_to_fit();
     assert_eq!(rt;
         (none, rooms, left, again, left_again, connection.room()),
-        (0, [4, 16, 64, 128, 256], 3, [3, 64], 3, 0)
+        (0, [4, 16, 32, 64, 128, 256], 3, [3, 32], 3, 0)
     );
     drop(connection);
     Ok(())
