@@ -4,7 +4,7 @@
 #
 # kit: rattle-kit-13f logic dac8208d650f15bf
 # proved: logic=proved functions=330 axioms=3 target=x86_64-unknown-linux-gnu cpu=x86-64-v2
-# sources: 64c5a0e35e5a42446d75cf6386301466268f3c3a49cc7f6096da5a848c9ff4e2 (ob_budget, ob_types, ob_seq, ob_connection, ob_covered, ob_lifecycle, ob_shared_connection, ob_c)
+# sources: a248231b9662d264b196ff0c49ab23f76c9c1a4725c782c2772aa3ac5e1b383f (ob_budget, ob_types, ob_seq, ob_connection, ob_covered, ob_lifecycle, ob_shared_connection, ob_c)
 	.file	"rattle"
 	.section	".text.unlikely.ob_seq::walk::run_of","ax",@progbits
 	.p2align	6                               # -- Begin function ob_seq::walk::run_of
@@ -16131,7 +16131,7 @@
 	cmpq	$127, %rax
 	ja	.Llimekeel_BB40_37
 # %bb.11:                               # %then.9
-	movl	$64, %r15d
+	movl	$32, %r15d
 	cmpq	$3, %rax
 	jne	.Llimekeel_BB40_12
 .Llimekeel_BB40_15:                              # %then.13
@@ -16253,7 +16253,7 @@
 	xorl	%ecx, %ecx
 	jmp	.Llimekeel_BB40_29
 	.p2align	4
-.Llimekeel_BB40_34:                              # %join.3.i.i.i18
+.Llimekeel_BB40_34:                              # %join.3.i.i.i19
                                         #   in Loop: Header=BB40_29 Depth=1
 	movq	%rax, %rdi
 	shlq	$6, %rdi
@@ -16277,7 +16277,7 @@
                                         # =>This Inner Loop Header: Depth=1
 	cmpq	%rdi, 32(%rbx)
 	jne	.Llimekeel_BB40_30
-# %bb.31:                               # %then.1.i.i.i24
+# %bb.31:                               # %then.1.i.i.i25
                                         #   in Loop: Header=BB40_29 Depth=1
 	movq	$0, 32(%rbx)
 	xorl	%r8d, %r8d
@@ -16336,10 +16336,12 @@
 	xorps	%xmm0, %xmm0
 	movups	%xmm0, 24(%rbx)
 	jmp	.Llimekeel_BB40_42
-.Llimekeel_BB40_14:
-	movl	%eax, %r15d
-	andl	$64, %r15d
-	addq	$64, %r15
+.Llimekeel_BB40_14:                              # %else.8.i
+	movl	%eax, %ecx
+	andl	$64, %ecx
+	addq	$64, %rcx
+	cmpq	$32, %rax
+	cmovaeq	%rcx, %r15
 	jmp	.Llimekeel_BB40_15
 .Llimekeel_BB40_3:                               # %"std_alloc::vec::deque::VecDeque::reserve::<#fef179f464dd0fc0>.exit.i"
 	leaq	80(%rbx), %rdi
